@@ -1,0 +1,6 @@
+-- Laws of the definitions in specs/, for this crate and those above it.
+pub mod Lists
+pub mod Places
+pub mod Product
+pub mod Steps
+pub mod Example

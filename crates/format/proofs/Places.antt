@@ -1,0 +1,87 @@
+-- The sections' places, once the counts are read, lie inside the bytes.
+use Prim.Native.Nat.{ℕ, _+_, _*_, _≤_}
+use mathlib.Core.Bool.{Bool, true, false, cond, _&&_}
+use mathlib.Core.List.{List}
+use mathlib.Core.Path.{_≡_, refl, subst}
+use native.Mathlib.Omega.{arith}
+use native.Mathlib.Nat.{mul-comm}
+use borrow.Author.Tests.{leb-true}
+use lib.Dec.{leb, eqb}
+use lib.ListN.{length}
+use Rattle.lists.proofs.Bools.{and4}
+use Rattle.format.specs.Bytes.{wordAt}
+use Rattle.format.specs.Layout.{Room, next, sectionAt, layoutOf, namesFrom, constructorsFrom, operandsFrom, piecesFrom, textFrom}
+use Rattle.format.specs.declared.Section.{Section}
+use Rattle.format.specs.declared.Cursor.{Cursor}
+use Rattle.format.specs.declared.Layout.{Layout}
+use Rattle.format.specs.declared.Counted.{Counted}
+use Rattle.format.specs.declared.Counted.the-variants.{Found, Missing}
+use Rattle.format.specs.declared.Laid.{Laid}
+use Rattle.format.specs.declared.Laid.the-variants.{At, Fault}
+
+-- what a count that was found says of its section
+pub record Placed (b : List ℕ) (least size : ℕ) (s : Section) : Type 0 where
+  pub inside : s .start + size * s .count ≤ length b
+  pub enough : least ≤ s .count
+
+-- the section that a step went past, and what the step after it gave
+record Passed (b : List ℕ) (least size : ℕ) (more : Section → ℕ → Laid) (l : Layout) : Type 0 where
+  section : Section
+  at : ℕ
+  placed : Placed b least size section
+  rest : more section at ≡ At l
+
+passed : (b : List ℕ) (k at least most size : ℕ) (more : Section → ℕ → Laid) (l : Layout)
+    → next k (sectionAt b at least most size) more ≡ At l → Passed b least size more l
+unfolding sectionAt
+passed b k at least most size more l e = go _ refl e
+  where
+    n : ℕ
+    n = wordAt b at
+
+    go : (t : Bool)
+        → (leb (at + 2) (length b) && leb least n && leb n most && leb (at + 2 + n * size) (length b)) ≡ t
+        → next k (cond t (Found (record { start = at + 2; count = n }) (record { at = at + 2 + n * size })) Missing) more ≡ At l
+        → Passed b least size more l
+    go true p q =
+        let f = and4 (leb (at + 2) (length b)) (leb least n) (leb n most) (leb (at + 2 + n * size) (length b)) p in
+        record {
+          section = record { start = at + 2; count = n };
+          at = at + 2 + n * size;
+          placed =
+              record {
+                inside = omega (arith, mul-comm n size, leb-true (at + 2 + n * size) (length b) (f .3));
+                enough = leb-true least n (f .1);
+              };
+          rest = q;
+        }
+    go false p q = let z : _≡_ {A = ℕ} 0 1 = cc in absurd (omega arith)
+
+ended : (t : Bool) (l m : Layout) → cond t (At l) (Fault 6) ≡ At m → l ≡ m
+ended true l m e = cc
+ended false l m e = let z : _≡_ {A = ℕ} 0 1 = cc in absurd (omega arith)
+
+-- a section whose records are one byte each
+single : (b : List ℕ) (s : Section) → Placed b 0 1 s → s .start + s .count ≤ length b
+single b s p = omega arith
+
+-- the places that the counts give
+pub laid-room : (b : List ℕ) (l : Layout) → layoutOf b ≡ At l → Room b l
+unfolding layoutOf namesFrom constructorsFrom operandsFrom piecesFrom textFrom
+laid-room b l e =
+    let fields = passed b 1 _ _ _ _ _ l e in
+    let names = passed b 2 _ _ _ _ _ l (fields .rest) in
+    let constructors = passed b 3 _ _ _ _ _ l (names .rest) in
+    let operands = passed b 4 _ _ _ _ _ l (constructors .rest) in
+    let pieces = passed b 5 _ _ _ _ _ l (operands .rest) in
+    let text = passed b 6 _ _ _ _ _ l (pieces .rest) in
+    subst (λ (m : Layout). Room b m) (ended (eqb (text .at) (length b)) _ l (text .rest))
+    (record {
+      fields = fields .placed .inside;
+      names = names .placed .inside;
+      constructors = constructors .placed .inside;
+      operands = operands .placed .inside;
+      pieces = pieces .placed .inside;
+      text = single b _ (text .placed);
+      some = constructors .placed .enough;
+    })

@@ -1,0 +1,9 @@
+-- What a byte string means as a description (document 01, "The description").
+pub mod Numbers
+pub mod Bytes
+pub mod Record
+pub mod Layout
+pub mod Description
+pub mod Rules
+pub mod Check
+pub mod Example

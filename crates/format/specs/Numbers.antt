@@ -1,0 +1,62 @@
+-- The numbers of the format, each named once: "1 fields | 256", "2 names | 1,024", "3 constructors | 1 to 512", "4 operands | 2,048", "5 pieces | 4,096", "6 text | 8,192".
+use Prim.Native.Nat.{ℕ}
+
+abbrev pub mostFields : ℕ
+mostFields = 256
+
+abbrev pub mostNames : ℕ
+mostNames = 1024
+
+abbrev pub leastConstructors : ℕ
+leastConstructors = 1
+
+abbrev pub mostConstructors : ℕ
+mostConstructors = 512
+
+abbrev pub mostOperands : ℕ
+mostOperands = 2048
+
+abbrev pub mostPieces : ℕ
+mostPieces = 4096
+
+abbrev pub mostLetters : ℕ
+mostLetters = 8192
+
+-- a record's bytes
+abbrev pub fieldBytes : ℕ
+fieldBytes = 8
+
+abbrev pub nameBytes : ℕ
+nameBytes = 3
+
+abbrev pub constructorBytes : ℕ
+constructorBytes = 32
+
+abbrev pub operandBytes : ℕ
+operandBytes = 4
+
+abbrev pub pieceBytes : ℕ
+pieceBytes = 4
+
+abbrev pub letterBytes : ℕ
+letterBytes = 1
+
+-- "table 0 to 63", "minimum length 0 to 16", "at most 8 operands and 16 pieces", "Offset 0 to 15"
+abbrev pub tables : ℕ
+tables = 64
+
+abbrev pub longest : ℕ
+longest = 16
+
+abbrev pub operandsEach : ℕ
+operandsEach = 8
+
+abbrev pub piecesEach : ℕ
+piecesEach = 16
+
+abbrev pub farthest : ℕ
+farthest = 15
+
+-- "that section's fault with record 65,535"
+abbrev pub sectionItself : ℕ
+sectionItself = 65535

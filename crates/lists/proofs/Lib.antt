@@ -1,0 +1,4 @@
+-- Laws of the definitions in specs/.
+pub mod Bools
+pub mod Below
+pub mod Tab

@@ -1,0 +1,2 @@
+-- What the code of this crate carries from record to record.
+pub mod Marks

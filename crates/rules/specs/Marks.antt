@@ -1,0 +1,10 @@
+-- A list that marks the numbers which some record names, gathered once instead of searched for each time.
+use Prim.Native.Nat.{ℕ, _<_}
+use mathlib.Core.Bool.{Bool, false}
+use mathlib.Core.List.{List}
+use mathlib.Core.Path.{_≡_}
+use lib.ListN.{getD}
+
+-- number k, if below the size, is marked exactly where it is named
+pub record Marks (size : ℕ) (list : List Bool) (named : ℕ → Bool) : Type 0 where
+  pub marked : (k : ℕ) → k < size → getD list k false ≡ named k

@@ -1,0 +1,260 @@
+// The rules of document 01 for each record of a description.
+use format::Constructor;
+use format::Field;
+use format::Layout;
+use format::Name;
+use format::Operand;
+use format::Pattern;
+use format::Piece;
+use format::Range;
+ghost use mathlib.Core.Path.{_≡_};
+ghost use mathlib.Core.Bool.{false, not, _&&_, _||_};
+ghost use Prim.Native.Nat.{_+_, _<_, _≤_, _^_};
+ghost use lib.Dec.{ltb, eqb};
+ghost use lib.ListN.{getD};
+ghost use Rattle.lists.specs.Below.{allBelow};
+ghost use Rattle.format.specs.Layout.{Room};
+ghost use Rattle.format.specs.Description.{description, fieldsOf, constructorsOf, noConstructor};
+ghost use Rattle.format.specs.Rules.{sourceOk, bitsOk, lookOk, fieldOk, nameOk, tableOk, hasTable, minimumOk, valueOk, rangeOk, shapeOk, anchorFits, operandFits, pieceFits, constructorOk, fieldFits, operandOk, pieceOk, letterOk};
+ghost use Rattle.rules.specs.Marks.{Marks};
+
+pub fn source_ok(f: Field) -> bool
+    ensures { λ r. ⌜ r ≡ sourceOk f ⌝ }
+{
+    ((f.source == 0) & (1 <= f.width) & (f.width <= 4) & (f.order <= 1))
+        | ((f.source == 1) & (f.width == 4) & (f.order == 0))
+}
+
+pub fn bits_ok(f: Field) -> bool
+    ensures { λ r. ⌜ r ≡ bitsOk f ⌝ }
+{
+    let width = f.width as u16;
+    let high = f.high as u16;
+    (f.low <= f.high) & (high < 8 * width)
+}
+
+// 2 to the power of a field's number of bits.
+fn names_of(bits: usize) -> usize
+    requires { ⌜ bits ≤ 8 ⌝ }
+    ensures { λ r. ⌜ (r ≡ 2 ^ bits) × (r ≤ 256) ⌝ }
+{
+    1 << bits
+}
+
+fn look_ok(f: Field, names: usize) -> bool
+    requires { ⌜ f .low ≤ f .high ⌝ }
+    ensures { λ r. ⌜ r ≡ lookOk names f ⌝ }
+{
+    if f.look != 4 {
+        return (f.look < 4) & (f.first == 0);
+    }
+    let bits = (f.high as usize) + 1 - (f.low as usize);
+    if 8 < bits {
+        return false;
+    }
+    (f.first as usize) + names_of(bits) <= names
+}
+
+pub fn field_ok(f: Field, names: usize) -> bool
+    ensures { λ r. ⌜ r ≡ fieldOk names f ⌝ }
+{
+    if source_ok(f) & bits_ok(f) {
+        look_ok(f, names)
+    } else {
+        false
+    }
+}
+
+pub fn name_ok(n: Name, letters: usize) -> bool
+    ensures { λ r. ⌜ r ≡ nameOk letters n ⌝ }
+{
+    (n.offset as usize) + (n.length as usize) <= letters
+}
+
+pub fn piece_ok(p: Piece, letters: usize) -> bool
+    ensures { λ r. ⌜ r ≡ pieceOk letters p ⌝ }
+{
+    let end = (p.offset as usize) + (p.n as usize);
+    ((p.kind == 0) & (1 <= p.n) & (end <= letters)) | ((p.kind == 1) & (p.offset == 0))
+}
+
+pub fn letter_ok(x: u8) -> bool
+    ensures { λ r. ⌜ r ≡ letterOk x ⌝ }
+{
+    (32 <= x) & (x <= 126)
+}
+
+fn minimum_ok(c: Constructor) -> bool
+    ensures { λ r. ⌜ r ≡ minimumOk c ⌝ }
+{
+    let minimum = c.minimum;
+    if 8 <= minimum {
+        return minimum <= format::LONGEST;
+    }
+    c.pattern.mask >> (8 * minimum) == 0
+}
+
+fn value_ok(p: Pattern) -> bool
+    ensures { λ r. ⌜ r ≡ valueOk p ⌝ }
+{
+    (p.value & p.mask == p.value) & (p.contextvalue & p.contextmask == p.contextvalue)
+}
+
+fn range_ok(r: Range, most: u8, count: usize) -> bool
+    ensures { λ x. ⌜ x ≡ rangeOk most count r ⌝ }
+{
+    let end = (r.first as usize) + (r.count as usize);
+    (r.count <= most) & (end <= count)
+}
+
+fn table_ok(desc: &[u8], layout: Layout, i: usize) -> bool
+    requires { ⌜ Room (now desc) layout ⌝ }
+    requires { ⌜ i < layout .constructors .count ⌝ }
+    ensures { λ r. ⌜ r ≡ tableOk (description (now (desc .entry)) layout) i ⌝ }
+{
+    let table = sections::table_at(desc, layout, i);
+    if i == 0 {
+        return table < format::TABLES;
+    }
+    let before = sections::table_at(desc, layout, i - 1);
+    (table < format::TABLES) & (before <= table)
+}
+
+fn shape_ok(desc: &[u8], layout: Layout, i: usize, c: Constructor) -> bool
+    requires { ⌜ Room (now desc) layout ⌝ }
+    requires { ⌜ i < layout .constructors .count ⌝ }
+    ensures { λ r. ⌜ r ≡ shapeOk (description (now (desc .entry)) layout) i c ⌝ }
+{
+    table_ok(desc, layout, i)
+        & minimum_ok(c)
+        & value_ok(c.pattern)
+        & range_ok(c.operands, format::OPERANDS_EACH, layout.operands.count)
+        & range_ok(c.pieces, format::PIECES_EACH, layout.pieces.count)
+}
+
+// The tables that have a constructor, gathered once for all operands that name one.
+pub fn tables_of(desc: &[u8], layout: Layout) -> [bool; 256]
+    requires { ⌜ Room (now desc) layout ⌝ }
+    ensures { λ r. ⌜ Marks 256 r (hasTable (description (now (desc .entry)) layout)) ⌝ }
+{
+    let mut marks = [false; 256];
+    let n = layout.constructors.count;
+    let mut i = 0;
+    while i < n {
+        let table = sections::table_at(desc, layout, i) as usize;
+        marks[table] = true;
+        i += 1;
+    }
+    marks
+}
+
+// Operand o, from 0, of a constructor of this table.
+fn operand_fits(x: Operand, tables: &[bool; 256], table: u8, o: usize) -> bool
+    requires { ⌜ o < 256 ⌝ }
+    ensures { λ r. ⌜ r ≡ anchorFits o x && (not (eqb (x .kind) 1) || (ltb (x .index) table && getD (now (tables .entry)) (x .index) false)) ⌝ }
+{
+    let anchor = x.anchor as usize;
+    let index = x.index as usize;
+    (anchor < o + 1) & ((x.kind != 1) | ((x.index < table) & tables[index]))
+}
+
+fn operands_ok(desc: &[u8], layout: Layout, tables: &[bool; 256], c: Constructor) -> bool
+    requires { ⌜ Room (now desc) layout ⌝ }
+    requires { ⌜ Marks 256 (now tables) (hasTable (description (now desc) layout)) ⌝ }
+    requires { ⌜ c .operands .first + c .operands .count ≤ layout .operands .count ⌝ }
+    ensures { λ r. ⌜ r ≡ allBelow (c .operands .count) (operandFits (description (now (desc .entry)) layout) c) ⌝ }
+{
+    let first = c.operands.first as usize;
+    let n = c.operands.count as usize;
+    let mut o = 0;
+    while o < n {
+        let x = sections::operand_at(desc, layout, first + o);
+        let fits = operand_fits(x, tables, c.table, o);
+        if fits {
+            o += 1;
+        } else {
+            return false;
+        }
+    }
+    true
+}
+
+fn pieces_ok(desc: &[u8], layout: Layout, c: Constructor) -> bool
+    requires { ⌜ Room (now desc) layout ⌝ }
+    requires { ⌜ c .pieces .first + c .pieces .count ≤ layout .pieces .count ⌝ }
+    requires { ⌜ c .operands .count ≤ 8 ⌝ }
+    ensures { λ r. ⌜ r ≡ allBelow (c .pieces .count) (pieceFits (description (now (desc .entry)) layout) c) ⌝ }
+{
+    let first = c.pieces.first as usize;
+    let n = c.pieces.count as usize;
+    let mut shown = [false; 9];
+    let mut q = 0;
+    while q < n {
+        let p = sections::piece_at(desc, layout, first + q);
+        if p.kind != 1 {
+            q += 1;
+            continue;
+        }
+        if p.n < 1 {
+            return false;
+        }
+        if c.operands.count < p.n {
+            return false;
+        }
+        let at = p.n as usize;
+        if shown[at] {
+            return false;
+        }
+        shown[at] = true;
+        q += 1;
+    }
+    true
+}
+
+pub fn constructor_ok(
+    desc: &[u8],
+    layout: Layout,
+    tables: &[bool; 256],
+    i: usize,
+    c: Constructor,
+) -> bool
+    requires { ⌜ Room (now desc) layout ⌝ }
+    requires { ⌜ Marks 256 (now tables) (hasTable (description (now desc) layout)) ⌝ }
+    requires { ⌜ i < layout .constructors .count ⌝ }
+    requires { ⌜ c ≡ getD (constructorsOf (now desc) layout) i noConstructor ⌝ }
+    ensures { λ r. ⌜ r ≡ constructorOk (description (now (desc .entry)) layout) i ⌝ }
+{
+    if shape_ok(desc, layout, i, c) {
+        if operands_ok(desc, layout, tables, c) {
+            pieces_ok(desc, layout, c)
+        } else {
+            false
+        }
+    } else {
+        false
+    }
+}
+
+fn field_fits(desc: &[u8], layout: Layout, x: Operand) -> bool
+    requires { ⌜ Room (now desc) layout ⌝ }
+    ensures { λ r. ⌜ r ≡ fieldFits (fieldsOf (now (desc .entry)) layout) x ⌝ }
+{
+    let index = x.index as usize;
+    if index < layout.fields.count {
+        let f = sections::field_at(desc, layout, index);
+        (f.source != 1) | ((x.anchor == 0) & (x.offset == 0))
+    } else {
+        false
+    }
+}
+
+pub fn operand_ok(desc: &[u8], layout: Layout, x: Operand) -> bool
+    requires { ⌜ Room (now desc) layout ⌝ }
+    ensures { λ r. ⌜ r ≡ operandOk (fieldsOf (now (desc .entry)) layout) x ⌝ }
+{
+    if x.kind == 0 {
+        (x.offset <= format::FARTHEST) & field_fits(desc, layout, x)
+    } else {
+        (x.offset <= format::FARTHEST) & (x.kind == 1)
+    }
+}

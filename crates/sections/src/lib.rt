@@ -1,0 +1,198 @@
+// The places of a description's sections, found in one pass over the counts, and the records that stand there.
+use format::Constructor;
+use format::Counted;
+use format::Cursor;
+use format::Field;
+use format::Laid;
+use format::Layout;
+use format::Name;
+use format::Operand;
+use format::Pattern;
+use format::Piece;
+use format::Section;
+ghost use mathlib.Core.Path.{_≡_};
+ghost use Prim.Native.Nat.{_<_};
+ghost use lib.ListN.{getD};
+ghost use Rattle.format.specs.Layout.{Room, layoutOf, namesFrom, constructorsFrom, operandsFrom, piecesFrom, textFrom};
+ghost use Rattle.format.specs.Description.{description, fieldsOf, namesOf, constructorsOf, operandsOf, piecesOf, textOf, noField, noName, noConstructor, noOperand, noPiece};
+ghost use Rattle.format.specs.Rules.{tableAt};
+
+// Each of these reads its section's count and goes on with the sections behind it.
+fn lay_text(
+    desc: &[u8],
+    fields: Section,
+    names: Section,
+    constructors: Section,
+    operands: Section,
+    pieces: Section,
+    c: Cursor,
+) -> Laid
+    ensures { λ r. ⌜ r ≡ textFrom (now (desc .entry)) fields names constructors operands pieces (c .at) ⌝ }
+{
+    let Counted::Found(text, end) = c.count(desc, 0, format::LETTERS, format::LETTER_BYTES) else {
+        return Laid::Fault(6);
+    };
+    if end.at == desc.len() {
+        Laid::At(Layout {
+            fields,
+            names,
+            constructors,
+            operands,
+            pieces,
+            text,
+        })
+    } else {
+        Laid::Fault(6)
+    }
+}
+
+fn lay_pieces(
+    desc: &[u8],
+    fields: Section,
+    names: Section,
+    constructors: Section,
+    operands: Section,
+    c: Cursor,
+) -> Laid
+    ensures { λ r. ⌜ r ≡ piecesFrom (now (desc .entry)) fields names constructors operands (c .at) ⌝ }
+{
+    let Counted::Found(pieces, next) = c.count(desc, 0, format::PIECES, format::PIECE_BYTES) else {
+        return Laid::Fault(5);
+    };
+    lay_text(desc, fields, names, constructors, operands, pieces, next)
+}
+
+fn lay_operands(
+    desc: &[u8],
+    fields: Section,
+    names: Section,
+    constructors: Section,
+    c: Cursor,
+) -> Laid
+    ensures { λ r. ⌜ r ≡ operandsFrom (now (desc .entry)) fields names constructors (c .at) ⌝ }
+{
+    let Counted::Found(operands, next) = c.count(desc, 0, format::OPERANDS, format::OPERAND_BYTES)
+    else {
+        return Laid::Fault(4);
+    };
+    lay_pieces(desc, fields, names, constructors, operands, next)
+}
+
+fn lay_constructors(desc: &[u8], fields: Section, names: Section, c: Cursor) -> Laid
+    ensures { λ r. ⌜ r ≡ constructorsFrom (now (desc .entry)) fields names (c .at) ⌝ }
+{
+    let Counted::Found(constructors, next) = c.count(
+        desc,
+        1,
+        format::CONSTRUCTORS,
+        format::CONSTRUCTOR_BYTES,
+    ) else {
+        return Laid::Fault(3);
+    };
+    lay_operands(desc, fields, names, constructors, next)
+}
+
+fn lay_names(desc: &[u8], fields: Section, c: Cursor) -> Laid
+    ensures { λ r. ⌜ r ≡ namesFrom (now (desc .entry)) fields (c .at) ⌝ }
+{
+    let Counted::Found(names, next) = c.count(desc, 0, format::NAMES, format::NAME_BYTES) else {
+        return Laid::Fault(2);
+    };
+    lay_constructors(desc, fields, names, next)
+}
+
+pub fn lay(desc: &[u8]) -> Laid
+    ensures { λ r. ⌜ r ≡ layoutOf (now (desc .entry)) ⌝ }
+{
+    let start = Cursor { at: 0 };
+    let Counted::Found(fields, next) = start.count(desc, 0, format::FIELDS, format::FIELD_BYTES)
+    else {
+        return Laid::Fault(1);
+    };
+    lay_names(desc, fields, next)
+}
+
+pub fn field_at(desc: &[u8], layout: Layout, i: usize) -> Field
+    requires { ⌜ Room (now desc) layout ⌝ }
+    requires { ⌜ i < layout .fields .count ⌝ }
+    ensures { λ r. ⌜ r ≡ getD (fieldsOf (now (desc .entry)) layout) i noField ⌝ }
+{
+    let c = Cursor {
+        at: layout.fields.start + 8 * i,
+    };
+    c.field(desc).field
+}
+
+pub fn name_at(desc: &[u8], layout: Layout, i: usize) -> Name
+    requires { ⌜ Room (now desc) layout ⌝ }
+    requires { ⌜ i < layout .names .count ⌝ }
+    ensures { λ r. ⌜ r ≡ getD (namesOf (now (desc .entry)) layout) i noName ⌝ }
+{
+    let c = Cursor {
+        at: layout.names.start + 3 * i,
+    };
+    c.name(desc).name
+}
+
+pub fn constructor_at(desc: &[u8], layout: Layout, i: usize) -> Constructor
+    requires { ⌜ Room (now desc) layout ⌝ }
+    requires { ⌜ i < layout .constructors .count ⌝ }
+    ensures { λ r. ⌜ r ≡ getD (constructorsOf (now (desc .entry)) layout) i noConstructor ⌝ }
+{
+    let c = Cursor {
+        at: layout.constructors.start + 32 * i,
+    };
+    c.constructor(desc).constructor
+}
+
+// A constructor's pattern alone, for choosing.
+pub fn pattern_of(desc: &[u8], layout: Layout, i: usize) -> Pattern
+    requires { ⌜ Room (now desc) layout ⌝ }
+    requires { ⌜ i < layout .constructors .count ⌝ }
+    ensures { λ r. ⌜ r ≡ getD (constructorsOf (now (desc .entry)) layout) i noConstructor .pattern ⌝ }
+{
+    format::pattern_at(desc, layout.constructors.start + 32 * i)
+}
+
+// A constructor's table alone.
+pub fn table_at(desc: &[u8], layout: Layout, i: usize) -> u8
+    requires { ⌜ Room (now desc) layout ⌝ }
+    requires { ⌜ i < layout .constructors .count ⌝ }
+    ensures { λ r. ⌜ r ≡ tableAt (description (now (desc .entry)) layout) i ⌝ }
+{
+    let at = layout.constructors.start + 32 * i;
+    desc[at]
+}
+
+pub fn operand_at(desc: &[u8], layout: Layout, i: usize) -> Operand
+    requires { ⌜ Room (now desc) layout ⌝ }
+    requires { ⌜ i < layout .operands .count ⌝ }
+    ensures { λ r. ⌜ r ≡ getD (operandsOf (now (desc .entry)) layout) i noOperand ⌝ }
+{
+    let c = Cursor {
+        at: layout.operands.start + 4 * i,
+    };
+    c.operand(desc).operand
+}
+
+pub fn piece_at(desc: &[u8], layout: Layout, i: usize) -> Piece
+    requires { ⌜ Room (now desc) layout ⌝ }
+    requires { ⌜ i < layout .pieces .count ⌝ }
+    ensures { λ r. ⌜ r ≡ getD (piecesOf (now (desc .entry)) layout) i noPiece ⌝ }
+{
+    let c = Cursor {
+        at: layout.pieces.start + 4 * i,
+    };
+    c.piece(desc).piece
+}
+
+pub fn letter_at(desc: &[u8], layout: Layout, i: usize) -> u8
+    requires { ⌜ Room (now desc) layout ⌝ }
+    requires { ⌜ i < layout .text .count ⌝ }
+    ensures { λ r. ⌜ r ≡ getD (textOf (now (desc .entry)) layout) i 0 ⌝ }
+{
+    let c = Cursor {
+        at: layout.text.start + i,
+    };
+    c.letter(desc).letter
+}

@@ -1,0 +1,36 @@
+//! The proved decoder, made safe to call.
+
+mod c {
+    extern "C" {
+        pub fn dookerand_check(
+            description: *const u8,
+            description_len: usize,
+            values: *mut u64,
+        ) -> u32;
+    }
+}
+
+/// An answer's number and its values; unused values are 0.
+#[derive(Clone, Copy, Debug, PartialEq, Eq)]
+pub struct Answer {
+    pub number: u32,
+    pub values: [u64; 4],
+}
+
+/// Checks a description: 0 if it is well formed, 1 with the section and the
+/// record at fault.
+pub fn check(description: &[u8]) -> Answer {
+    answer(|values| {
+        // SAFETY: a slice gives a readable range and, empty too, no null
+        // pointer; the call writes the four values alone.
+        unsafe { c::dookerand_check(description.as_ptr(), description.len(), values) }
+    })
+}
+
+/// Calls with room for the values. Each call sets all four; one left out
+/// would stand out.
+fn answer(call: impl FnOnce(*mut u64) -> u32) -> Answer {
+    let mut values = [u64::MAX; 4];
+    let number = call(values.as_mut_ptr());
+    Answer { number, values }
+}

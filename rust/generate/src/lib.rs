@@ -1,0 +1,28 @@
+//! Descriptions for comparisons: fixed ones, random well-formed ones, and
+//! ones with single rules broken, at their limits, or changed at random.
+
+mod allowed;
+mod code;
+mod counts;
+pub mod example;
+mod limits;
+mod longest;
+mod mutate;
+mod patterns;
+mod rng;
+mod rules;
+mod tree;
+mod well_formed;
+mod write;
+
+pub use allowed::{Change, CHANGES};
+pub use code::{code, context};
+pub use counts::count_faults;
+pub use limits::{limits, Case};
+pub use longest::longest;
+pub use mutate::{change_bytes, change_counts, change_records, insert_or_remove, random_records};
+pub use rng::Rng;
+pub use rules::{rules, Rule};
+pub use tree::tree;
+pub use well_formed::{well_formed, Size};
+pub use write::{bytes, counts, section_starts, LIMITS, RECORD_SIZES};
