@@ -4,9 +4,13 @@ use format::Cursor;
 use format::Laid;
 use format::Layout;
 ghost use mathlib.Core.Path.{_≡_};
+ghost use Prim.Native.Nat.{_+_, _≤_};
+ghost use lib.ListN.{length, getD};
+ghost use Rattle.lists.specs.Below.{allBelow};
+ghost use Rattle.format.specs.Bytes.{byteAt};
 ghost use Rattle.format.specs.Layout.{Room};
-ghost use Rattle.format.specs.Description.{description};
-ghost use Rattle.format.specs.Rules.{hasTable};
+ghost use Rattle.format.specs.Description.{description, piecesOf, noPiece};
+ghost use Rattle.format.specs.Rules.{hasTable, pieceOk, letterOk};
 ghost use Rattle.format.specs.Check.{badField, badName, badConstructor, badOperand, badPiece, badLetter, partFault, faultOf, checkOf};
 ghost use Rattle.rules.specs.Marks.{Marks};
 
@@ -96,7 +100,24 @@ fn bad_operand(desc: &[u8], layout: Layout) -> usize
     n
 }
 
-fn bad_piece(desc: &[u8], layout: Layout) -> usize
+// Whether all pieces are good, with no branch in the loop: which way a piece goes is hard to foretell.
+fn all_pieces(desc: &[u8], layout: Layout) -> bool
+    requires { ⌜ Room (now desc) layout ⌝ }
+    ensures { λ r. ⌜ r ≡ allBelow (layout .pieces .count) (λ i. pieceOk (layout .text .count) (getD (piecesOf (now (desc .entry)) layout) i noPiece)) ⌝ }
+{
+    let mut good = true;
+    let n = layout.pieces.count;
+    let mut i = 0;
+    while i < n {
+        let p = sections::piece_at(desc, layout, i);
+        good = good & rules::piece_ok(p, layout.text.count);
+        i += 1;
+    }
+    good
+}
+
+// The first bad piece.
+fn find_piece(desc: &[u8], layout: Layout) -> usize
     requires { ⌜ Room (now desc) layout ⌝ }
     ensures { λ r. ⌜ r ≡ badPiece (description (now (desc .entry)) layout) ⌝ }
 {
@@ -117,7 +138,33 @@ fn bad_piece(desc: &[u8], layout: Layout) -> usize
     n
 }
 
-fn bad_letter(desc: &[u8], layout: Layout) -> usize
+fn bad_piece(desc: &[u8], layout: Layout) -> usize
+    requires { ⌜ Room (now desc) layout ⌝ }
+    ensures { λ r. ⌜ r ≡ badPiece (description (now (desc .entry)) layout) ⌝ }
+{
+    if all_pieces(desc, layout) {
+        layout.pieces.count
+    } else {
+        find_piece(desc, layout)
+    }
+}
+
+// Whether all of the text is good, with no branch in the loop: the machine tests many letters at once.
+fn all_letters(desc: &[u8], start: usize, n: usize) -> bool
+    requires { ⌜ start + n ≤ length (now desc) ⌝ }
+    ensures { λ r. ⌜ r ≡ allBelow n (λ i. letterOk (byteAt (now (desc .entry)) (start + i))) ⌝ }
+{
+    let mut good = true;
+    let mut i = 0;
+    while i < n {
+        good = good & rules::letter_ok(desc[start + i]);
+        i += 1;
+    }
+    good
+}
+
+// The first bad letter.
+fn find_letter(desc: &[u8], layout: Layout) -> usize
     requires { ⌜ Room (now desc) layout ⌝ }
     ensures { λ r. ⌜ r ≡ badLetter (description (now (desc .entry)) layout) ⌝ }
 {
@@ -135,6 +182,17 @@ fn bad_letter(desc: &[u8], layout: Layout) -> usize
         }
     }
     i
+}
+
+fn bad_letter(desc: &[u8], layout: Layout) -> usize
+    requires { ⌜ Room (now desc) layout ⌝ }
+    ensures { λ r. ⌜ r ≡ badLetter (description (now (desc .entry)) layout) ⌝ }
+{
+    if all_letters(desc, layout.text.start, layout.text.count) {
+        layout.text.count
+    } else {
+        find_letter(desc, layout)
+    }
 }
 
 // The faults of the operands, pieces and text.

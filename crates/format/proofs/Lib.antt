@@ -2,5 +2,7 @@
 pub mod Lists
 pub mod Places
 pub mod Product
+pub mod Formation
+pub mod Tables
 pub mod Steps
 pub mod Example

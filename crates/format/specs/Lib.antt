@@ -6,4 +6,5 @@ pub mod Layout
 pub mod Description
 pub mod Rules
 pub mod Check
+pub mod Tables
 pub mod Example

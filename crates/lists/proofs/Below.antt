@@ -8,7 +8,7 @@ use native.Mathlib.Omega.{arith}
 use lib.Dec.{ltb}
 use borrow.Author.Tests.{lt-ltb, le-ltb, ltb-true, ltb-false}
 use Rattle.lists.specs.Below.{allBelow, anyBelow, firstBelow}
-use Rattle.lists.proofs.Bools.{and-left, and-right, and-both, and-no}
+use Rattle.lists.proofs.Bools.{and-left, and-right, and-both, and-no, or-yes}
 
 module _ (ok : ℕ → Bool) where
   -- before the first turn
@@ -20,6 +20,15 @@ module _ (ok : ℕ → Bool) where
   pub all-more : (i : ℕ) → allBelow i ok ≡ true → ok i ≡ true → allBelow (i + 1) ok ≡ true
   unfolding allBelow
   all-more i p q = rw add-one (and-both (allBelow i ok) (ok i) p q)
+
+  -- the same, for a loop that keeps the answer so far
+  pub all-next : (i : ℕ) → allBelow (i + 1) ok ≡ (allBelow i ok && ok i)
+  unfolding allBelow
+  all-next i = rw add-one
+
+  pub all-keep : (i : ℕ) (good test : Bool) → good ≡ allBelow i ok → (good ≡ true → test ≡ ok i) → (good && test) ≡ allBelow (i + 1) ok
+  all-keep i true test e f = rw (all-next i, ← e) (f refl)
+  all-keep i false test e f = rw (all-next i, ← e)
 
   -- a turn that fails ends the question
   pub all-stop : (n i : ℕ) → i < n → ok i ≡ false → allBelow n ok ≡ false
@@ -38,6 +47,11 @@ module _ (ok : ℕ → Bool) where
       go : (b : Bool) → ok i ≡ b → b ≡ true
       go true q = refl
       go false q = absurd (false≢true (sym (all-stop n i h q) ∙ e))
+
+  pub all-of : (n : ℕ) → ((i : ℕ) → i < n → ok i ≡ true) → allBelow n ok ≡ true
+  unfolding allBelow
+  all-of zero f = refl
+  all-of (suc n) f = and-both (allBelow n ok) (ok n) (all-of n (λ i h. f i (omega arith))) (f n (omega arith))
 
   -- what makes i the first number below n that fails, or n
   pub record First (n i : ℕ) : Type 0 where
@@ -80,6 +94,9 @@ module _ (ok : ℕ → Bool) where
       let q : ¬ (j < i) = λ h. not-before g f h in
       omega arith
 
+  pub first-here : (n i : ℕ) → First n i → firstBelow n ok ≡ i
+  first-here n i f = first-only (first-is n) f
+
   -- a loop that stops at a number which fails, every one before it having passed, has found it ..
   pub first-stop : (n i : ℕ) → allBelow i ok ≡ true → i < n → ok i ≡ false → firstBelow n ok ≡ i
   first-stop n i a h e = first-only (first-is n) (record { within = omega arith; before = a; fails = λ _. e })
@@ -101,3 +118,31 @@ module _ (ok : ℕ → Bool) where
   pub any-more : (i : ℕ) → anyBelow (i + 1) ok ≡ anyBelow i ok || ok i
   unfolding anyBelow
   any-more i = rw add-one
+
+-- tests that agree below n give one answer
+pub all-same : (n : ℕ) (f g : ℕ → Bool) → ((i : ℕ) → i < n → f i ≡ g i) → allBelow n f ≡ allBelow n g
+unfolding allBelow
+all-same zero f g e = refl
+all-same (suc n) f g e = rw (all-same n f g (λ i h. e i (omega arith)), e n (omega arith))
+
+module _ (ok : ℕ → Bool) where
+  -- one that passes is enough ..
+  pub any-at : (n i : ℕ) → i < n → ok i ≡ true → anyBelow n ok ≡ true
+  unfolding anyBelow
+  any-at zero i h e = absurd (omega arith)
+  any-at (suc n) i h e = go (decLt i n) (λ p. any-at n i p e)
+    where
+      go : Dec (i < n) → (i < n → anyBelow n ok ≡ true) → (anyBelow n ok || ok n) ≡ true
+      go (yes p) f = rw (f p)
+      go (no p) f = let s : i ≡ n = omega arith in rw (← s, e) (or-yes (anyBelow i ok))
+
+  -- .. and where the answer is yes there is one
+  pub any-found : (n : ℕ) → anyBelow n ok ≡ true → (i : ℕ) × (i < n) × (ok i ≡ true)
+  unfolding anyBelow
+  any-found zero e = absurd (false≢true e)
+  any-found (suc n) e = go (anyBelow n ok) refl e (λ q. any-found n q)
+    where
+      go : (t : Bool) → anyBelow n ok ≡ t → (t || ok n) ≡ true → (anyBelow n ok ≡ true → (i : ℕ) × (i < n) × (ok i ≡ true))
+          → (i : ℕ) × (i < suc n) × (ok i ≡ true)
+      go true p q f = let r = f p in (r .0, omega (arith, r .1), r .2)
+      go false p q f = (n, omega arith, q)

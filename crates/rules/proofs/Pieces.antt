@@ -1,39 +1,53 @@
--- pieceFits, case by case, from the piece that was read.
-use Prim.Native.Nat.{ℕ, _<_, _≤_}
-use mathlib.Core.Bool.{true, false, not}
-use mathlib.Core.Path.{_≡_}
-use borrow.Author.Tests.{eq-eqb, ne-eqb, le-leb, lt-leb}
-use lib.Dec.{eqb}
+-- pieceFits, tested by the marks of the operands shown so far.
+use Prim.Native.Nat.{ℕ, _%_, _<_, _≤_}
+use mathlib.Core.Bool.{Bool, true, false, not, _&&_, _||_}
+use mathlib.Core.List.{List}
+use mathlib.Core.Path.{_≡_, refl}
+use native.Mathlib.Omega.{arith}
+use borrow.Author.Tests.{leb-true}
+use lib.Dec.{eqb, leb}
+use lib.ListN.{getD}
 use Rattle.lists.specs.Below.{anyBelow}
+use Rattle.lists.proofs.Bools.{and-no, and3}
 use Rattle.format.specs.Description.{Description}
 use Rattle.format.specs.Rules.{pieceOf, pieceFits, shows}
 use Rattle.format.specs.declared.Constructor.{Constructor}
 use Rattle.format.specs.declared.Piece.{Piece}
+use Rattle.rules.specs.Marks.{Marks}
+
+-- A number that no operand has is refused before its mark is looked at, so the marks may be read at n % 16.
+seen : (n operands : ℕ) (list : List Bool) (shown : ℕ → Bool) → operands ≤ 8 → Marks 16 list shown
+    → (leb 1 n && leb n operands && not (getD list (n % 16) false)) ≡ (leb 1 n && leb n operands && not (shown n))
+seen n operands list shown h m = go (leb n operands) refl
+  where
+    go : (t : Bool) → leb n operands ≡ t
+        → (leb 1 n && leb n operands && not (getD list (n % 16) false)) ≡ (leb 1 n && leb n operands && not (shown n))
+    go false e = rw (e, and-no (leb 1 n) false refl)
+    go true e =
+        let l : n ≤ operands = leb-true n operands e in
+        let s : n % 16 ≡ n = omega arith in
+        rw (s, m .marked n (omega arith))
 
 module _ (d : Description) (c : Constructor) (q : ℕ) (p : Piece) (e : p ≡ pieceOf d c q) where
-  -- text fits any constructor, and shows no operand
-  pub text-fits : (p .kind ≡ 1 → ⊥) → pieceFits d c q ≡ true
+  -- the test that the marks decide is the rule
+  pub piece-fits : (list : List Bool) → c .operands .count ≤ 8 → Marks 16 list (λ n. anyBelow q (shows d c n))
+      → (not (eqb (p .kind) 1) || (leb 1 (p .n) && leb (p .n) (c .operands .count) && not (getD list (p .n % 16) false)))
+      ≡ pieceFits d c q
   unfolding pieceFits
-  text-fits k = rw (← e, ne-eqb (p .kind) 1 k)
+  piece-fits list h m = rw (← e, seen (p .n) (c .operands .count) list (λ n. anyBelow q (shows d c n)) h m)
 
-  pub text-shows : (p .kind ≡ 1 → ⊥) → (n : ℕ) → shows d c n q ≡ false
-  unfolding shows
-  text-shows k n = rw (← e, ne-eqb (p .kind) 1 k)
-
-  -- an operand's number is 1 to the count
-  pub number-low : p .kind ≡ 1 → p .n < 1 → pieceFits d c q ≡ false
-  unfolding pieceFits
-  number-low k h = rw (← e, eq-eqb (p .kind) 1 k, lt-leb 1 (p .n) h)
-
-  pub number-high : p .kind ≡ 1 → 1 ≤ p .n → c .operands .count < p .n → pieceFits d c q ≡ false
-  unfolding pieceFits
-  number-high k l h = rw (← e, eq-eqb (p .kind) 1 k, le-leb 1 (p .n) l, lt-leb (p .n) (c .operands .count) h)
-
-  -- and no earlier piece shows it
-  pub number-fits : p .kind ≡ 1 → 1 ≤ p .n → p .n ≤ c .operands .count → pieceFits d c q ≡ not (anyBelow q (shows d c (p .n)))
-  unfolding pieceFits
-  number-fits k l h = rw (← e, eq-eqb (p .kind) 1 k, le-leb 1 (p .n) l, le-leb (p .n) (c .operands .count) h)
-
-  pub number-shows : p .kind ≡ 1 → (n : ℕ) → shows d c n q ≡ eqb (p .n) n
-  unfolding shows
-  number-shows k n = rw (← e, eq-eqb (p .kind) 1 k)
+  -- a piece that fits marks its operand, if it shows one
+  pub piece-shows : c .operands .count ≤ 8 → pieceFits d c q ≡ true → (n : ℕ) → n < 16
+      → shows d c n q ≡ (eqb (p .kind) 1 && eqb (p .n % 16) n)
+  unfolding pieceFits shows
+  piece-shows h f n l = rw (← e) (go (eqb (p .kind) 1) (rw (← e) at f))
+    where
+      go : (t : Bool)
+          → (not t || (leb 1 (p .n) && leb (p .n) (c .operands .count) && not (anyBelow q (shows d c (p .n))))) ≡ true
+          → (t && eqb (p .n) n) ≡ (t && eqb (p .n % 16) n)
+      go false g = refl
+      go true g =
+          let r = and3 (leb 1 (p .n)) (leb (p .n) (c .operands .count)) (not (anyBelow q (shows d c (p .n)))) g in
+          let b : p .n ≤ c .operands .count = leb-true (p .n) (c .operands .count) (r .1) in
+          let s : p .n % 16 ≡ p .n = omega arith in
+          rw s

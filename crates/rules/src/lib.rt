@@ -9,8 +9,8 @@ use format::Piece;
 use format::Range;
 ghost use mathlib.Core.Path.{_≡_};
 ghost use mathlib.Core.Bool.{false, not, _&&_, _||_};
-ghost use Prim.Native.Nat.{_+_, _<_, _≤_, _^_};
-ghost use lib.Dec.{ltb, eqb};
+ghost use Prim.Native.Nat.{_+_, _<_, _≤_, _^_, _%_};
+ghost use lib.Dec.{leb, ltb, eqb};
 ghost use lib.ListN.{getD};
 ghost use Rattle.lists.specs.Below.{allBelow};
 ghost use Rattle.format.specs.Layout.{Room};
@@ -179,6 +179,15 @@ fn operands_ok(desc: &[u8], layout: Layout, tables: &[bool; 256], c: Constructor
     true
 }
 
+// A piece of a constructor with so many operands, where `shown` marks those that an earlier piece shows.
+fn piece_fits(p: Piece, operands: u8, shown: &[bool; 16]) -> bool
+    ensures { λ r. ⌜ r ≡ not (eqb (p .kind) 1) || (leb 1 (p .n) && leb (p .n) operands && not (getD (now (shown .entry)) (p .n % 16) false)) ⌝ }
+{
+    let at = (p.n % 16) as usize;
+    (p.kind != 1) | ((1 <= p.n) & (p.n <= operands) & !shown[at])
+}
+
+// No branch depends on a piece's kind, which is hard to foretell: the loop keeps the answer so far.
 fn pieces_ok(desc: &[u8], layout: Layout, c: Constructor) -> bool
     requires { ⌜ Room (now desc) layout ⌝ }
     requires { ⌜ c .pieces .first + c .pieces .count ≤ layout .pieces .count ⌝ }
@@ -187,28 +196,17 @@ fn pieces_ok(desc: &[u8], layout: Layout, c: Constructor) -> bool
 {
     let first = c.pieces.first as usize;
     let n = c.pieces.count as usize;
-    let mut shown = [false; 9];
+    let mut shown = [false; 16];
+    let mut good = true;
     let mut q = 0;
     while q < n {
         let p = sections::piece_at(desc, layout, first + q);
-        if p.kind != 1 {
-            q += 1;
-            continue;
-        }
-        if p.n < 1 {
-            return false;
-        }
-        if c.operands.count < p.n {
-            return false;
-        }
-        let at = p.n as usize;
-        if shown[at] {
-            return false;
-        }
-        shown[at] = true;
+        good = good & piece_fits(p, c.operands.count, &shown);
+        let at = (p.n % 16) as usize;
+        shown[at] = shown[at] | (p.kind == 1);
         q += 1;
     }
-    true
+    good
 }
 
 pub fn constructor_ok(

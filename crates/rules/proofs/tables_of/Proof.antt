@@ -61,8 +61,8 @@ loop-again c =
       omega arith,
       simp length-set (inv .1),
       inv .2,
-      marks-one 256 (c .before .before .loop .i) (c .table-at .result) (c .before .before .loop .marks) (hits _ _) (omega arith)
-          (λ k. rw (c .table-at .ensures)) (inv .3),
+      marks-one 256 (c .before .before .loop .i) (c .table-at .result) (c .before .before .loop .marks) (hits _ _) (omega arith) (omega arith)
+          (λ k l. rw (c .table-at .ensures)) (inv .3),
     )
 
 -- src/lib.rt:129:1

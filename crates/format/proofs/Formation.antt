@@ -1,0 +1,79 @@
+-- What a well-formed description is to the layers above: its places lie inside its bytes, and every record obeys its rules.
+use Prim.Native.Nat.{ℕ, suc, _+_, _-_, _≤_, _<_}
+use mathlib.Core.Bool.{Bool, true, false, cond, _&&_, _||_}
+use mathlib.Core.List.{List}
+use mathlib.Core.Path.{_≡_, refl, sym, subst, _∙_}
+use native.Mathlib.Omega.{arith}
+use borrow.Author.Tests.{ltb-true, ltb-false, leb-true, lt-ltb, ne-eqb}
+use lib.Dec.{ltb, leb, eqb}
+use lib.ListN.{length, getD}
+use Rattle.lists.specs.Below.{allBelow, firstBelow}
+use Rattle.lists.proofs.Below.{first-all, all-at}
+use Rattle.lists.proofs.Bools.{and-left, and-right}
+use Rattle.format.specs.Numbers.{sectionItself, operandsEach, piecesEach}
+use Rattle.format.specs.Layout.{layoutOf}
+use Rattle.format.specs.Description.{Description, description, noField, noName, noConstructor, noOperand, noPiece}
+use Rattle.format.specs.Rules.{fieldOk, nameOk, constructorOk, operandOk, pieceOk, letterOk, shapeOk, tableOk, tableAt, minimumOk, valueOk, rangeOk, operandFits, pieceFits}
+use Rattle.format.specs.Check.{named, faultOf, partFault, judged, checkOf, Formed, badField, badName, badConstructor, badOperand, badPiece, badLetter}
+use Rattle.format.specs.declared.Layout.{Layout}
+use Rattle.format.specs.declared.Constructor.{Constructor}
+use Rattle.format.specs.declared.Laid.{Laid}
+use Rattle.format.specs.declared.Laid.the-variants as laid
+use Rattle.format.specs.declared.Checked.{Checked}
+use Rattle.format.specs.declared.Checked.the-variants.{Good, Fault}
+use Rattle.format.proofs.Places.{laid-room}
+
+-- every record of every section obeys its rules
+pub record Obeyed (d : Description) : Type 0 where
+  pub fields : allBelow (length (d .fields)) (λ i. fieldOk (length (d .names)) (getD (d .fields) i noField)) ≡ true
+  pub names : allBelow (length (d .names)) (λ i. nameOk (length (d .text)) (getD (d .names) i noName)) ≡ true
+  pub constructors : allBelow (length (d .constructors)) (constructorOk d) ≡ true
+  pub operands : allBelow (length (d .operands)) (λ i. operandOk (d .fields) (getD (d .operands) i noOperand)) ≡ true
+  pub pieces : allBelow (length (d .pieces)) (λ i. pieceOk (length (d .text)) (getD (d .pieces) i noPiece)) ≡ true
+  pub text : allBelow (length (d .text)) (λ i. letterOk (getD (d .text) i 0)) ≡ true
+
+-- a section that is passed over has no faulty record
+passed : (k i n : ℕ) (rest : Checked) (l : Layout) → named k i n rest ≡ Good l → (n ≤ i) × (rest ≡ Good l)
+passed k i n rest l e = go (ltb i n) refl e
+  where
+    go : (t : Bool) → ltb i n ≡ t → cond t (Fault k i) rest ≡ Good l → (n ≤ i) × (rest ≡ Good l)
+    go true p q = let z : _≡_ {A = ℕ} 0 1 = cc in absurd (omega arith)
+    go false p q = (ltb-false i n p, q)
+
+-- no fault: the places are handed on, and every record obeys its rules
+unfaulted : (d : Description) (l m : Layout) → faultOf d l ≡ Good m → (l ≡ m) × Obeyed d
+unfolding faultOf partFault badField badName badConstructor badOperand badPiece badLetter
+unfaulted d l m e =
+    let fields = passed 1 (badField d) (length (d .fields)) _ m e in
+    let names = passed 2 (badName d) (length (d .names)) _ m (fields .1) in
+    let constructors = passed 3 (badConstructor d) (length (d .constructors)) _ m (names .1) in
+    let operands = passed 4 (badOperand d) (length (d .operands)) _ m (constructors .1) in
+    let pieces = passed 5 (badPiece d) (length (d .pieces)) _ m (operands .1) in
+    let text = passed 6 (badLetter d) (length (d .text)) _ m (pieces .1) in (
+      cc (text .1),
+      record {
+        fields = first-all _ _ (fields .0);
+        names = first-all _ _ (names .0);
+        constructors = first-all _ _ (constructors .0);
+        operands = first-all _ _ (operands .0);
+        pieces = first-all _ _ (pieces .0);
+        text = first-all _ _ (text .0);
+      },
+    )
+
+-- the layout that was judged
+laid-of : (b : List ℕ) (l : Layout) (x : Laid) → layoutOf b ≡ x → judged b x ≡ Good l → (layoutOf b ≡ laid.At l) × Obeyed (description b l)
+laid-of b l (laid.At m) p e =
+    let u = unfaulted (description b m) m l e in
+    (rw (u .0) at p, rw (u .0) at (u .1))
+laid-of b l (laid.Fault k) p e = let z : _≡_ {A = ℕ} 0 1 = cc in absurd (omega arith)
+
+module _ (b : List ℕ) (l : Layout) where
+  -- the door to everything above: what `check` says when it finds no fault
+  pub formed : checkOf b ≡ Good l → Formed b l
+  unfolding checkOf
+  formed e = record { room = laid-room b l (laid-of b l (layoutOf b) refl e .0); good = e }
+
+  pub obeyed : Formed b l → Obeyed (description b l)
+  unfolding checkOf
+  obeyed f = laid-of b l (layoutOf b) refl (f .good) .1

@@ -1,0 +1,115 @@
+use Rattle.format.proofs.Tables.{sorted}
+use Rattle.format.proofs.Lists.{constructors-length}
+use Rattle.format.proofs.Formation.{obeyed}
+use Rattle.format.specs.Tables.{tableFirst}
+use Rattle.format.specs.Rules.{tableAt}
+use Rattle.format.specs.Description.{description}
+use Rattle.lists.proofs.Below.{first-here, all-of}
+use lib.ListN.{length}
+use lib.Dec.{ltb}
+use borrow.Author.Tests.{lt-ltb, le-ltb}
+use borrow.Author.Needs.{needs}
+use native.Mathlib.Omega.{arith}
+use mathlib.Core.Path.{_≡_, sym}
+use Prim.Native.Nat.{ℕ, _≤_, _<_, _-_}
+use Rattle.tables.proofs.first_from.Statement.{statement}
+use Rattle.tables.proofs.first_from.Tie as tie
+use Rattle.tables.proofs.first_from.Reads as reads
+use Rattle.tables.proofs.first_from.Lts as lts
+use Rattle.sections.proofs.table_at.Reads as table-at-reads
+
+abbrev Inv-loop : tie.InvT-loop
+Inv-loop desc layout t low₀ high₀ low high =
+    (low ≤ high) × (high ≤ layout .constructors .count) × ((i : ℕ) → i < low → tableAt (description desc layout) i < t)
+    × (high < layout .constructors .count → t ≤ tableAt (description desc layout) high)
+
+abbrev μ-loop : tie.MeasureT-loop
+μ-loop desc layout t low₀ high₀ low high = high - low
+
+-- src/lib.rt:31:5
+loop-holds : tie.Need-loop-holds Inv-loop μ-loop
+loop-holds c = (omega arith, omega arith, λ i h. absurd (omega arith), λ h. absurd (omega arith))
+
+-- src/lib.rt:32:29
+sub-middle : tie.Need-sub-middle Inv-loop μ-loop
+sub-middle c = omega arith
+
+-- src/lib.rt:32:22
+add-middle : tie.Need-add-middle Inv-loop μ-loop
+add-middle c = omega arith
+
+-- src/lib.rt:33:21
+table-at-requires : tie.Need-table-at-requires Inv-loop μ-loop
+table-at-requires c κs = (c .before .before .before .pre .room, omega arith)
+
+-- src/lib.rt:33:21
+cast-table : tie.Need-cast-table Inv-loop μ-loop
+cast-table c = search needs
+
+-- src/lib.rt:35:19
+add-low : tie.Need-add-low Inv-loop μ-loop
+add-low c = omega arith
+
+-- src/lib.rt:31:5
+loop-less : tie.Need-loop-less Inv-loop μ-loop
+loop-less c = omega arith
+
+-- src/lib.rt:31:5
+loop-again : tie.Need-loop-again Inv-loop μ-loop
+loop-again c =
+    let s = c .before .before .before .before .before in (
+      omega arith,
+      omega arith,
+      λ i h.
+          let d = description (s .args .desc .now) (s .args .layout) in
+          let m = c .before .before .before .loop .low in
+          let a : tableAt d i ≤ c .before .table-at .result = rw (c .before .table-at .ensures) (sorted d (obeyed _ _ (s .pre)) i _ (omega arith) (rw constructors-length (omega arith))) in
+          omega (arith, c .if1 .taken),
+      c .before .before .before .loop .inv .3,
+    )
+
+-- src/lib.rt:31:5
+loop-less-2 : tie.Need-loop-less-2 Inv-loop μ-loop
+loop-less-2 c = omega arith
+
+-- src/lib.rt:31:5
+loop-again-2 : tie.Need-loop-again-2 Inv-loop μ-loop
+loop-again-2 c = (
+  omega arith,
+  omega arith,
+  c .before .before .before .loop .inv .2,
+  λ h. rw (← c .before .table-at .ensures) (c .if1 .left),
+)
+
+-- src/lib.rt:25:1
+returns : tie.Need-returns Inv-loop μ-loop
+unfolding tableFirst
+returns c =
+    let d = description (c .before .before .before .args .desc .now) (c .before .before .before .args .layout) in
+    let t = c .before .before .before .args .t in
+    let inv = c .before .loop .inv in
+    let e : c .before .loop .high ≡ c .before .loop .low = omega arith in
+    sym (first-here (λ i. ltb (tableAt d i) t) (length (d .constructors)) (c .before .loop .low)
+    (record {
+      within = rw constructors-length (omega arith);
+      before = all-of _ _ (λ i h. lt-ltb (tableAt d i) t (inv .2 i h));
+      fails = λ h. le-ltb (tableAt d (c .before .loop .low)) t ((rw e at (inv .3)) (rw constructors-length at h));
+    }))
+
+pub first-from-spec : {M : Type 1} → statement M
+first-from-spec =
+    tie.close
+    (tie.spec
+    Inv-loop
+    μ-loop
+    loop-holds
+    sub-middle
+    add-middle
+    table-at-requires
+    cast-table
+    add-low
+    loop-less
+    loop-again
+    loop-less-2
+    loop-again-2
+    returns)
