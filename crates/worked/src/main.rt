@@ -1,0 +1,87 @@
+// Runs document 01's worked cases that are not proved as theorems, and prints the answers: the number of document 01's table
+// and its values.
+use format::Checked;
+use libc::STDOUT_FILENO;
+ghost use mathlib.Core.Path.{_≡_};
+ghost use lib.ListN.{length};
+
+// Description S.
+const S: [u8; 216] = [
+    2, 0, 0, 1, 0, 0, 3, 0, 0, 0, 0, 1, 0, 0, 7, 3, 0, 0, 0, 0, 4, 0, 0, 1, 0, 0, 0, 0, 0, 0, 0, 0,
+    0, 0, 0, 0, 0, 0, 0, 0, 0, 0, 0, 0, 0, 0, 0, 0, 1, 0, 0, 1, 0, 0, 1, 1, 240, 0, 0, 0, 0, 0, 0,
+    0, 16, 0, 0, 0, 0, 0, 0, 0, 0, 0, 0, 0, 0, 0, 0, 0, 1, 1, 0, 2, 1, 0, 1, 1, 240, 0, 0, 0, 0, 0,
+    0, 0, 32, 0, 0, 0, 0, 0, 0, 0, 0, 0, 0, 0, 0, 0, 0, 0, 2, 1, 0, 4, 3, 0, 1, 1, 255, 0, 0, 0, 0,
+    0, 0, 0, 31, 0, 0, 0, 0, 0, 0, 0, 0, 0, 0, 0, 0, 0, 0, 0, 0, 0, 0, 1, 7, 0, 3, 0, 0, 1, 0, 0,
+    0, 0, 0, 0, 1, 0, 0, 1, 8, 0, 1, 1, 0, 0, 0, 5, 0, 0, 1, 1, 0, 0, 0, 5, 5, 0, 1, 1, 0, 0, 0, 2,
+    10, 0, 1, 2, 0, 0, 0, 4, 12, 0, 16, 0, 105, 110, 99, 32, 114, 97, 100, 100, 32, 114, 44, 32,
+    104, 97, 108, 116,
+];
+
+fn line(text: &[u8]) {
+    io::write_all(STDOUT_FILENO, text);
+}
+
+fn number(n: usize) {
+    io::write_all(STDOUT_FILENO, b" ");
+    io::print_decimal(STDOUT_FILENO, n as u64);
+}
+
+fn judge(text: &[u8], description: &[u8]) {
+    line(text);
+    let checked = description::check(description);
+    match checked {
+        Checked::Good(_) => number(0),
+        Checked::Fault { section, record } => {
+            number(1);
+            number(section);
+            number(record);
+        }
+    }
+    line(b"\n");
+}
+
+// S, and one byte more.
+fn longer() -> [u8; 217]
+    ensures { λ r. ⌜ 217 ≡ length r ⌝ }
+{
+    let s = S;
+    let mut d = [0u8; 217];
+    for i in 0..216 {
+        d[i] = s[i];
+    }
+    d
+}
+
+// Every section full: fields of one bit, empty names, constructors without patterns, pieces of one letter, blanks.
+fn longest() -> [u8; 54284]
+    ensures { λ r. ⌜ 54284 ≡ length r ⌝ }
+{
+    let mut d = [0u8; 54284];
+    d[1] = 1;
+    d[2051] = 4;
+    d[5125] = 2;
+    d[21511] = 8;
+    d[29705] = 16;
+    d[46091] = 32;
+    for i in 0..256 {
+        d[8 * i + 3] = 1;
+    }
+    for i in 0..4096 {
+        d[4 * i + 29707] = 1;
+    }
+    for i in 0..8192 {
+        d[i + 46092] = 32;
+    }
+    d
+}
+
+fn main() {
+    let s = S;
+    judge(b"S:", &s);
+    judge(b"S cut to 215 bytes:", &s[..215]);
+    judge(b"S and one byte more:", &longer());
+    judge(b"empty:", &s[..0]);
+    let d = longest();
+    judge(b"the longest:", &d);
+    judge(b"the longest, cut by one:", &d[..54283]);
+}

@@ -1,0 +1,27 @@
+/* Dookerand: one proved instruction decoder.
+ *
+ * Every function takes any bytes and always returns an answer of document 01's table, "When the decoder says no":
+ * the returned number is the answer's, and values[0] to values[3] are its values in the table's order, unused ones 0.
+ * All four are set at each call. No other lent byte is touched unless the comment says so.
+ *
+ * A slice goes as a pointer and a length. With length 0 the pointer may be any pointer but NULL.
+ * `values` points to four numbers that overlap no slice.
+ */
+#ifndef DOOKERAND_H
+#define DOOKERAND_H
+
+#include <stddef.h>
+#include <stdint.h>
+
+#ifdef __cplusplus
+extern "C" {
+#endif
+
+/* Judges a description. 0: well formed. 1: section, record of its first fault (record 65,535 is the section itself). */
+uint32_t dookerand_check(const uint8_t *description, size_t description_len, uint64_t values[4]);
+
+#ifdef __cplusplus
+}
+#endif
+
+#endif
