@@ -1,7 +1,13 @@
 // The C face. Each function returns the answer's number in document 01's table and sets all four values.
+use asking::Asked;
+use clashing::Judged;
 use format::Checked;
 ghost use mathlib.Core.Path.{_≡_};
 ghost use Rattle.format.specs.Check.{checkOf, numberOf, valuesOf};
+ghost use Rattle.asking.specs.Asking as asking;
+ghost use Rattle.asking.specs.Asking.{askOf};
+ghost use Rattle.clashing.specs.Entry as clashing;
+ghost use Rattle.clashing.specs.Entry.{clashAnswer};
 
 #[no_mangle]
 pub extern "C" fn dookerand_check(description: &[u8], values: &mut [u64; 4]) -> u32
@@ -16,6 +22,73 @@ pub extern "C" fn dookerand_check(description: &[u8], values: &mut [u64; 4]) -> 
         Checked::Fault { section, record } => {
             *values = [section as u64, record as u64, 0, 0];
             1
+        }
+    }
+}
+
+#[no_mangle]
+pub extern "C" fn dookerand_ask(
+    description: &[u8],
+    table: u32,
+    context: u32,
+    code: &[u8],
+    values: &mut [u64; 4],
+) -> u32
+    ensures { λ r. ⌜ (r ≡ asking.numberOf (askOf (now (description .entry)) table context (now (code .entry)))) × (now (values .exit) ≡ asking.valuesOf (askOf (now (description .entry)) table context (now (code .entry)))) ⌝ }
+{
+    let asked = asking::ask(description, table, context, code);
+    match asked {
+        Asked::Done {
+            constructor,
+            weight,
+        } => {
+            *values = [constructor as u64, weight as u64, 0, 0];
+            0
+        }
+        Asked::Malformed { section, record } => {
+            *values = [section as u64, record as u64, 0, 0];
+            1
+        }
+        Asked::NoTable(t) => {
+            *values = [t as u64, 0, 0, 0];
+            12
+        }
+        Asked::Short => {
+            *values = [0, 0, 0, 0];
+            2
+        }
+        Asked::NoMatch(t) => {
+            *values = [0, t as u64, 0, 0];
+            3
+        }
+        Asked::Ambiguous(t) => {
+            *values = [0, t as u64, 0, 0];
+            4
+        }
+    }
+}
+
+#[no_mangle]
+pub extern "C" fn dookerand_clash(description: &[u8], table: u32, values: &mut [u64; 4]) -> u32
+    ensures { λ r. ⌜ (r ≡ clashing.numberOf (clashAnswer (now (description .entry)) table)) × (now (values .exit) ≡ clashing.valuesOf (clashAnswer (now (description .entry)) table)) ⌝ }
+{
+    let judged = clashing::clash(description, table);
+    match judged {
+        Judged::Clear => {
+            *values = [0, 0, 0, 0];
+            0
+        }
+        Judged::Pair(i, j) => {
+            *values = [1, i as u64, j as u64, 0];
+            0
+        }
+        Judged::Malformed { section, record } => {
+            *values = [section as u64, record as u64, 0, 0];
+            1
+        }
+        Judged::NoTable(t) => {
+            *values = [t as u64, 0, 0, 0];
+            12
         }
     }
 }

@@ -146,3 +146,25 @@ module _ (ok : ℕ → Bool) where
           → (i : ℕ) × (i < suc n) × (ok i ≡ true)
       go true p q f = let r = f p in (r .0, omega (arith, r .1), r .2)
       go false p q f = (n, omega arith, q)
+
+-- every one fails exactly where none passes
+pub all-not : (n : ℕ) (ok : ℕ → Bool) → allBelow n (λ i. not (ok i)) ≡ not (anyBelow n ok)
+unfolding allBelow anyBelow
+all-not zero ok = refl
+all-not (suc n) ok = rw (all-not n ok) (go (anyBelow n ok) (ok n))
+  where
+    go : (a b : Bool) → (not a && not b) ≡ not (a || b)
+    go true b = refl
+    go false b = refl
+
+-- two questions at once
+pub all-and : (n : ℕ) (f g : ℕ → Bool) → allBelow n (λ i. f i && g i) ≡ (allBelow n f && allBelow n g)
+unfolding allBelow
+all-and zero f g = refl
+all-and (suc n) f g = rw (all-and n f g) (go (allBelow n f) (allBelow n g) (f n) (g n))
+  where
+    go : (a b x y : Bool) → (a && b && (x && y)) ≡ (a && x && (b && y))
+    go false b x y = refl
+    go true true x y = refl
+    go true false true y = refl
+    go true false false y = refl

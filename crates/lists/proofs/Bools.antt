@@ -46,3 +46,8 @@ and-yes false = refl
 pub or-yes : (a : Bool) → a || true ≡ true
 or-yes true = refl
 or-yes false = refl
+
+pub and-swap : (a b : Bool) → (a && b) ≡ (b && a)
+and-swap true b = sym (and-yes b)
+and-swap false true = refl
+and-swap false false = refl

@@ -1,0 +1,3 @@
+-- Laws of asking.
+mod Answer
+pub mod Facts

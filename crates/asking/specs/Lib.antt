@@ -1,0 +1,2 @@
+-- Asking one table of any bytes.
+pub mod Asking

@@ -1,0 +1,3 @@
+-- Laws of bits.
+pub mod Digits
+pub mod Words

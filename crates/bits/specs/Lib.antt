@@ -1,0 +1,2 @@
+-- Bits of numbers.
+pub mod Bits

@@ -1,0 +1,102 @@
+-- The cases of document 01 that are marked with a star, as one table: what the definitions give, and what document 01 says.
+use Prim.Native.Nat.{ℕ}
+use mathlib.Core.Bool.{Bool, true, false, _&&_}
+use mathlib.Core.List.{List, [], _∷_, _++_}
+use lib.Dec.{eqb}
+use lib.ListN.{length, getD}
+use Rattle.format.specs.Example.{S}
+use Rattle.format.specs.declared.Pattern.{Pattern}
+use Rattle.choice.specs.Choosing.{choose}
+use Rattle.choice.specs.Clashing.{clashOf}
+use Rattle.choice.specs.declared.Choice.{Choice}
+use Rattle.choice.specs.declared.Choice.the-variants as choice
+use Rattle.choice.specs.declared.Clash.{Clash}
+use Rattle.choice.specs.declared.Clash.the-variants as clash
+use Rattle.asking.specs.Asking as asking
+use Rattle.asking.specs.Asking.{askOf}
+use Rattle.clashing.specs.Entry as clashing
+use Rattle.clashing.specs.Entry.{clashAnswer}
+
+pub record Case : Type 0 where
+  pub given : List ℕ
+  pub said : List ℕ
+
+unfoldable pub same : List ℕ → List ℕ → Bool
+same [] [] = true
+same [] (y ∷ ys) = false
+same (x ∷ xs) [] = false
+same (x ∷ xs) (y ∷ ys) = eqb x y && same xs ys
+
+unfoldable pub allHold : List Case → Bool
+allHold [] = true
+allHold (x ∷ xs) = same (x .given) (x .said) && allHold xs
+
+-- answers as numbers: that of document 01's table, then the values
+unfoldable pub asks : ℕ → List ℕ → List ℕ
+asks t s = asking.numberOf (askOf S t 0 s) ∷ asking.valuesOf (askOf S t 0 s)
+
+unfoldable pub clashes : ℕ → List ℕ
+clashes t = clashing.numberOf (clashAnswer S t) ∷ clashing.valuesOf (clashAnswer S t)
+
+unfoldable pub chosen : Choice → List ℕ
+chosen choice.Short = 2 ∷ []
+chosen choice.NoMatch = 3 ∷ []
+chosen (choice.Taken i) = 0 ∷ i ∷ []
+chosen choice.Ambiguous = 4 ∷ []
+
+unfoldable pub paired : Clash → List ℕ
+paired clash.Clear = 0 ∷ []
+paired (clash.Pair i j) = 1 ∷ i ∷ j ∷ []
+
+-- a pattern of the first two bytes, mask and value
+unfoldable pub bytes : ℕ → ℕ → Pattern
+bytes m v = record { mask = m; value = v; contextmask = 0; contextvalue = 0 }
+
+unfoldable pub rows : List Pattern → ℕ → Pattern
+rows ps j = getD ps j (bytes 0 0)
+
+-- "Patterns F0/10 and 0F/01", "with FF/11 added", "With FF 80/11 00 and FF 80/11 80 instead"
+unfoldable pub two : List Pattern
+two = bytes 0xf0 0x10 ∷ bytes 0x0f 0x01 ∷ []
+
+unfoldable pub three : List Pattern
+three = two ++ (bytes 0xff 0x11 ∷ [])
+
+unfoldable pub halves : List Pattern
+halves = two ++ (bytes 0x80ff 0x0011 ∷ bytes 0x80ff 0x8011 ∷ [])
+
+unfoldable pub chooses : List Pattern → List ℕ → List ℕ
+chooses ps s = chosen (choose (rows ps) (length ps) s 0)
+
+unfoldable pub pairs : List Pattern → List ℕ
+pairs ps = paired (clashOf (rows ps) (length ps))
+
+unfoldable pub cases : List Case
+cases =
+    -- "1F: .. weight 8"; 13, 25 and 30 choose constructors 1 and 2 and none
+    record { given = asks 1 (0x1f ∷ []); said = 0 ∷ 3 ∷ 8 ∷ 0 ∷ 0 ∷ [] } ∷
+    record { given = asks 1 (0x13 ∷ []); said = 0 ∷ 1 ∷ 4 ∷ 0 ∷ 0 ∷ [] } ∷
+    record { given = asks 1 (0x25 ∷ 0xfe ∷ []); said = 0 ∷ 2 ∷ 4 ∷ 0 ∷ 0 ∷ [] } ∷
+    record { given = asks 0 (0xfe ∷ []); said = 0 ∷ 0 ∷ 0 ∷ 0 ∷ 0 ∷ [] } ∷
+    -- "Empty: 2, place 0. 30: 3, place 0, table 1."
+    record { given = asks 1 []; said = 2 ∷ 0 ∷ 0 ∷ 0 ∷ 0 ∷ [] } ∷
+    record { given = asks 1 (0x30 ∷ []); said = 3 ∷ 0 ∷ 1 ∷ 0 ∷ 0 ∷ [] } ∷
+    record { given = asks 2 (0x30 ∷ []); said = 12 ∷ 2 ∷ 0 ∷ 0 ∷ 0 ∷ [] } ∷
+    -- S has no clash
+    record { given = clashes 0; said = 0 ∷ 0 ∷ 0 ∷ 0 ∷ 0 ∷ [] } ∷
+    record { given = clashes 1; said = 0 ∷ 0 ∷ 0 ∷ 0 ∷ 0 ∷ [] } ∷
+    -- "11 is ambiguous"
+    record { given = chooses two (0x11 ∷ []); said = 4 ∷ [] } ∷
+    record { given = pairs two; said = 1 ∷ 0 ∷ 1 ∷ [] } ∷
+    -- "with FF/11 added, clear"
+    record { given = chooses three (0x11 ∷ []); said = 0 ∷ 2 ∷ [] } ∷
+    record { given = pairs three; said = 0 ∷ [] } ∷
+    -- "still a clash, though 11 40 has an answer"
+    record { given = pairs halves; said = 1 ∷ 0 ∷ 1 ∷ [] } ∷
+    record { given = chooses halves (0x11 ∷ 0x40 ∷ []); said = 0 ∷ 2 ∷ [] } ∷
+    record { given = chooses halves (0x11 ∷ []); said = 2 ∷ [] } ∷
+    []
+
+-- the one claim: every case holds
+unfoldable pub holds : Bool
+holds = allHold cases

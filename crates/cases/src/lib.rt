@@ -1,0 +1,1 @@
+// Theorems only: the worked cases of document 01 that are marked with a star.

@@ -1,0 +1,34 @@
+-- The clash check of a table: `at j` is the pattern of record j, and there are n.
+use Prim.Native.Nat.{ℕ}
+use mathlib.Core.Bool.{Bool, cond, _&&_, _||_, not}
+use lib.Dec.{eqb, ltb, leb}
+use Rattle.lists.specs.Below.{anyBelow, firstBelow}
+use Rattle.patterns.specs.Relations.{inside, overlap, overlapOf, equal}
+use Rattle.format.specs.declared.Pattern.{Pattern}
+use Rattle.choice.specs.declared.Clash.{Clash}
+use Rattle.choice.specs.declared.Clash.the-variants.{Clear, Pair}
+
+module _ (at : ℕ → Pattern) (n : ℕ) where
+  -- "overlap with neither inside the other"
+  unfoldable pub crossing : ℕ → ℕ → Bool
+  crossing i j = overlap (at i) (at j) && not (inside (at i) (at j)) && not (inside (at j) (at i))
+
+  -- "third in the table equal to exactly their overlap"
+  unfoldable pub third : ℕ → ℕ → Bool
+  third i j = anyBelow n (λ t. not (eqb t i) && not (eqb t j) && equal (at t) (overlapOf (at i) (at j)))
+
+  -- "patterns are equal, or overlap with neither inside the other and no third in the table equal to exactly their overlap"
+  unfoldable pub clashing : ℕ → ℕ → Bool
+  clashing i j = equal (at i) (at j) || (crossing i j && not (third i j))
+
+  -- the first record after i that clashes with it, or n
+  unfoldable pub partner : ℕ → ℕ
+  partner i = firstBelow n (λ j. not (ltb i j && clashing i j))
+
+  -- the first record that has such a partner, or n
+  unfoldable pub firstClash : ℕ
+  firstClash = firstBelow n (λ i. leb n (partner i))
+
+  -- "the pair of records i < j with smallest i, then j .. else clear"
+  unfoldable pub clashOf : Clash
+  clashOf = cond (ltb firstClash n) (Pair firstClash (partner firstClash)) Clear

@@ -1,0 +1,218 @@
+-- What the scan knows, one record further.
+use Prim.Native.Nat.{ℕ, _+_, _<_}
+use mathlib.Core.Bool.{Bool, true, false, cond, not, _&&_, _||_, false≢true}
+use mathlib.Core.Path.{_≡_, refl, sym, ap, _∙_}
+use native.Mathlib.Decide.{ℕ-discrete}
+use native.Mathlib.Omega.{arith}
+use borrow.Author.Tests.{eq-eqb, ne-eqb}
+use lib.Dec.{eqb}
+use Rattle.lists.specs.Below.{allBelow, anyBelow}
+use Rattle.lists.proofs.Below.{any-none, any-more, any-at, all-at, all-of}
+use Rattle.lists.proofs.Bools.{or-no, or-yes}
+use Rattle.format.specs.declared.Pattern.{Pattern}
+use Rattle.patterns.specs.Relations.{inside}
+use Rattle.patterns.specs.Words.{wordsAgree, wordsWhole}
+use Rattle.patterns.specs.declared.Input.{Input}
+use Rattle.choosing_facts.proofs.Inside.{inside-trans}
+use Rattle.choosing.specs.Scan.{met, clears, wordShort, wordMatch, Inmost, Kept}
+use Rattle.choosing.specs.declared.Best.{Best}
+
+neither : (a b : Bool) → (a || b) ≡ false → (a ≡ false) × (b ≡ false)
+neither true b e = absurd (false≢true (sym e))
+neither false b e = (refl, e)
+
+not-no : (a : Bool) → not a ≡ false → a ≡ true
+not-no true e = refl
+not-no false e = sym e
+
+-- what is not so is false
+deny : (a : Bool) → (a ≡ true → ⊥) → a ≡ false
+deny true f = absurd (f refl)
+deny false f = refl
+
+module _ (at : ℕ → Pattern) (hit : ℕ → Bool) (n : ℕ) where
+  pub kept-none : Kept at hit n 0 (record { found = false; doubt = false; at = 0 })
+  kept-none =
+      record {
+        some = sym (any-none hit);
+        best = λ e. absurd (false≢true e);
+        sure = λ e _. absurd (false≢true e);
+        held = λ t h. absurd (omega arith);
+      }
+
+  -- a record that does not match changes nothing
+  pub kept-skip : (j : ℕ) (b : Best) → hit j ≡ false → Kept at hit n j b → Kept at hit n (j + 1) b
+  kept-skip j b e k =
+      record {
+        some = rw (any-more hit j, e, or-no) (k .some);
+        best = λ f. (omega (arith, k .best f .0), k .best f .1);
+        sure = λ f d.
+            let s = k .sure f d in
+            record {
+              within = omega (arith, s .within);
+              hits = s .hits;
+              above = λ i h x y. s .above i (before i h y) x y;
+            };
+        held = λ t h m. k .held t (before t h (m .hits)) m;
+      }
+    where
+      before : (i : ℕ) → i < j + 1 → hit i ≡ true → i < j
+      before i h y = go (ℕ-discrete i j)
+        where
+          go : Dec (i ≡ j) → i < j
+          go (yes q) = absurd (false≢true (sym (rw (sym q) at e) ∙ y))
+          go (no q) = omega arith
+
+  module _ (j : ℕ) (b : Best) (hits : hit j ≡ true) (k : Kept at hit n j b) (l : j < n) where
+    -- the record that is taken up, or kept, is the inner one of the two
+    some-more : true ≡ anyBelow (j + 1) hit
+    some-more = rw (any-more hit j, hits, or-yes)
+
+    pub kept-first : b .found ≡ false → Kept at hit n (j + 1) (record { found = true; doubt = false; at = j })
+    kept-first f =
+        record {
+          some = some-more;
+          best = λ _. (omega arith, hits);
+          sure = λ _ _. record { within = omega arith; hits = hits; above = λ i h x y. absurd (none i (omega (arith, x)) y) };
+          held = λ t h m. (refl, go t h m (ℕ-discrete t j));
+        }
+      where
+        none : (i : ℕ) → i < j → hit i ≡ true → ⊥
+        none i h y = false≢true (sym f ∙ (k .some ∙ any-at hit j i h y))
+
+        go : (t : ℕ) → t < j + 1 → Inmost at hit n t → Dec (t ≡ j) → j ≡ t
+        go t h m (yes q) = sym q
+        go t h m (no q) = absurd (none t (omega arith) (m .hits))
+
+    pub kept-inner : b .found ≡ true → inside (at j) (at (b .at)) ≡ true
+        → Kept at hit n (j + 1) (record { found = true; doubt = b .doubt || inside (at (b .at)) (at j); at = j })
+    kept-inner f e =
+        record {
+          some = some-more;
+          best = λ _. (omega arith, hits);
+          sure = λ _ d.
+              let r = neither (b .doubt) (inside (at (b .at)) (at j)) d in
+              record {
+                within = omega arith;
+                hits = hits;
+                above = λ i h x y. above (k .sure f (r .0)) (r .1) i (omega (arith, x)) y (ℕ-discrete i (b .at));
+              };
+          held = λ t h m. (refl, go t h m (ℕ-discrete t j));
+        }
+      where
+        above : Inmost at hit j (b .at) → inside (at (b .at)) (at j) ≡ false → (i : ℕ) → i < j → hit i ≡ true → Dec (i ≡ b .at)
+            → (inside (at j) (at i) ≡ true) × (inside (at i) (at j) ≡ false)
+        above s o i h y (yes q) = rw q (e, o)
+        above s o i h y (no q) =
+            let r = s .above i h q y in (
+              inside-trans (at j) (at (b .at)) (at i) e (r .0),
+              deny (inside (at i) (at j)) (λ z. false≢true (sym (r .1) ∙ inside-trans (at i) (at j) (at (b .at)) z e)),
+            )
+
+        go : (t : ℕ) → t < j + 1 → Inmost at hit n t → Dec (t ≡ j) → j ≡ t
+        go t h m (yes q) = sym q
+        go t h m (no q) =
+            let r = k .held t (omega arith) m .1 in
+            absurd (false≢true (sym (m .above j l (λ z. q (sym z)) hits .1) ∙ rw r at e))
+
+    pub kept-outer : b .found ≡ true → inside (at j) (at (b .at)) ≡ false
+        → Kept at hit n (j + 1) (record { found = true; doubt = b .doubt || not (inside (at (b .at)) (at j)); at = b .at })
+    kept-outer f e =
+        record {
+          some = some-more;
+          best = λ _. (omega (arith, k .best f .0), k .best f .1);
+          sure = λ _ d.
+              let r = neither (b .doubt) (not (inside (at (b .at)) (at j))) d in
+              let s = k .sure f (r .0) in
+              record {
+                within = omega (arith, s .within);
+                hits = s .hits;
+                above = λ i h x y. above s (not-no (inside (at (b .at)) (at j)) (r .1)) i h x y (ℕ-discrete i j);
+              };
+          held = λ t h m. (refl, go t h m (ℕ-discrete t j));
+        }
+      where
+        above : Inmost at hit j (b .at) → inside (at (b .at)) (at j) ≡ true → (i : ℕ) → i < j + 1 → (i ≡ b .at → ⊥) → hit i ≡ true
+            → Dec (i ≡ j) → (inside (at (b .at)) (at i) ≡ true) × (inside (at i) (at (b .at)) ≡ false)
+        above s o i h x y (yes q) = rw q (o, e)
+        above s o i h x y (no q) = s .above i (omega arith) x y
+
+        go : (t : ℕ) → t < j + 1 → Inmost at hit n t → Dec (t ≡ j) → b .at ≡ t
+        go t h m (yes q) =
+            let p = k .best f in
+            let r = m .above (b .at) (omega (arith, p .0)) (λ z. omega (arith, p .0)) (p .1) in
+            absurd (false≢true (sym e ∙ rw q at (r .0)))
+        go t h m (no q) = k .held t (omega arith) m .1
+
+    pub kept-met : Kept at hit n (j + 1) (met at b j)
+    unfolding met
+    kept-met = go (b .found) refl (inside (at j) (at (b .at))) refl
+      where
+        go : (f : Bool) → b .found ≡ f → (i : Bool) → inside (at j) (at (b .at)) ≡ i
+            → Kept at hit n (j + 1)
+            (cond f
+            (cond i (record { found = true; doubt = b .doubt || inside (at (b .at)) (at j); at = j })
+            (record { found = true; doubt = b .doubt || not (inside (at (b .at)) (at j)); at = b .at }))
+            (record { found = true; doubt = false; at = j }))
+        go true f true i = kept-inner f i
+        go true f false i = kept-outer f i
+        go false f i e = kept-first f
+
+-- none so far, and not this one
+pub none-more : (f : ℕ → Bool) (j : ℕ) → anyBelow j f ≡ false → f j ≡ false → anyBelow (j + 1) f ≡ false
+none-more f j p q = rw (any-more f j, p, q)
+
+-- `met` by the patterns that were read
+module _ (at : ℕ → Pattern) (b : Best) (j : ℕ) (p q : Pattern) (o : Bool)
+    (f : b .found ≡ true) (e : p ≡ at j) (g : q ≡ at (b .at)) (x : o ≡ inside q p) where
+  pub met-inner : inside p q ≡ true → _≡_ {A = Best} (record { found = true; doubt = b .doubt || o; at = j }) (met at b j)
+  unfolding met
+  met-inner i = rw (f, ← e, ← g, i, x)
+
+  pub met-outer : inside p q ≡ false → _≡_ {A = Best} (record { found = true; doubt = b .doubt || not o; at = b .at }) (met at b j)
+  unfolding met
+  met-outer i = rw (f, ← e, ← g, i, x)
+
+-- record j by the pattern that was read
+module _ (at : ℕ → Pattern) (i : Input) (j : ℕ) (p : Pattern) (e : p ≡ at j) where
+  pub is-match : wordsAgree p i ≡ true → wordsWhole p i ≡ true → (wordShort at i j ≡ false) × (wordMatch at i j ≡ true)
+  is-match a w = rw (← e, a, w) (refl, refl)
+
+  pub is-short : wordsAgree p i ≡ true → wordsWhole p i ≡ false → wordShort at i j ≡ true
+  is-short a w = rw (← e, a, w)
+
+  pub is-none : wordsAgree p i ≡ false → (wordShort at i j ≡ false) × (wordMatch at i j ≡ false)
+  is-none a = rw (← e, a) (refl, refl)
+
+  -- and against a record t, with its pattern
+  pub clears-is : (t : ℕ) (q : Pattern) (a w x o : Bool) → q ≡ at t → a ≡ wordsAgree p i → w ≡ wordsWhole p i → x ≡ inside q p → o ≡ inside p q
+      → (eqb j t || not (a && w) || (x && not o)) ≡ clears at (wordMatch at i) t j
+  unfolding clears
+  clears-is t q a w x o g ea ew ex eo = rw (ea, ew, ex, eo, e, g)
+
+module _ (at : ℕ → Pattern) (hit : ℕ → Bool) (n t : ℕ) where
+  -- a matching record that every other one clears is the one inside all others ..
+  pub clears-inmost : t < n → hit t ≡ true → allBelow n (clears at hit t) ≡ true → Inmost at hit n t
+  unfolding clears
+  clears-inmost h y e =
+      record {
+        within = h;
+        hits = y;
+        above = λ j l x z. go j x z (inside (at t) (at j)) (inside (at j) (at t)) (all-at (clears at hit t) n j e l);
+      }
+    where
+      go : (j : ℕ) → (j ≡ t → ⊥) → hit j ≡ true → (a b : Bool) → (eqb j t || not (hit j) || (a && not b)) ≡ true
+          → (a ≡ true) × (b ≡ false)
+      go j x z true true q = absurd (false≢true (rw (ne-eqb j t x, z) at q))
+      go j x z true false q = (refl, refl)
+      go j x z false b q = absurd (false≢true (rw (ne-eqb j t x, z) at q))
+
+  -- .. and conversely
+  pub inmost-clears : Inmost at hit n t → allBelow n (clears at hit t) ≡ true
+  unfolding clears
+  inmost-clears m = all-of (clears at hit t) n (λ j l. go j l (ℕ-discrete j t) (hit j) refl)
+    where
+      go : (j : ℕ) → j < n → Dec (j ≡ t) → (b : Bool) → hit j ≡ b → clears at hit t j ≡ true
+      go j l (yes q) b e = rw (eq-eqb j t q)
+      go j l (no q) true e = let r = m .above j l q e in rw (ne-eqb j t q, e, r .0, r .1)
+      go j l (no q) false e = rw (ne-eqb j t q, e)

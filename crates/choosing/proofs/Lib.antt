@@ -1,0 +1,3 @@
+-- Laws of the scan.
+pub mod Keeping
+pub mod Settling

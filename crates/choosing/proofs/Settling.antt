@@ -1,0 +1,95 @@
+-- What the words settle is what choosing answers.
+use Prim.Native.Nat.{ℕ, _+_, _*_, _<_}
+use mathlib.Core.Bool.{Bool, true, false, not, _&&_}
+use mathlib.Core.List.{List}
+use mathlib.Core.Path.{_≡_, refl, sym, ap, fun-ext, _∙_}
+use native.Mathlib.Decide.{decLt}
+use native.Mathlib.Omega.{arith}
+use lib.Dec.{lit<}
+use lib.ListN.{length, getD, List·getD-eq-default}
+use Rattle.lists.specs.Below.{anyBelow}
+use Rattle.lists.proofs.Below.{any-found}
+use Rattle.format.specs.Description.{description, constructorsOf, noConstructor}
+use Rattle.format.specs.declared.Layout.{Layout}
+use Rattle.format.specs.declared.Pattern.{Pattern}
+use Rattle.format.proofs.Lists.{constructor-here, constructors-length}
+use Rattle.patterns.specs.Matching.{matches, agrees, masksMissing, cutOff}
+use Rattle.patterns.specs.Words.{Holds, Small}
+use Rattle.patterns.specs.declared.Input.{Input}
+use Rattle.patterns.proofs.Bytes.{long-small, quad-small}
+use Rattle.patterns.proofs.Words.{agrees-is, whole-is, matches-is}
+use Rattle.choice.specs.Choosing.{choose, short, matching}
+use Rattle.choice.specs.declared.Choice.{Choice}
+use Rattle.choice.specs.declared.Choice.the-variants.{Short, NoMatch, Taken, Ambiguous}
+use Rattle.choosing_facts.specs.Taken.{Strict}
+use Rattle.choosing_facts.proofs.None.{none-at}
+use Rattle.choosing_facts.proofs.Taken.{choose-short, choose-taken, choose-ambiguous, no-match-back}
+use Rattle.choosing.specs.Table.{patternFrom}
+use Rattle.choosing.specs.Scan.{wordShort, wordMatch, Inmost, Settles}
+
+-- a description's patterns fit their words
+module _ (b : List ℕ) (l : Layout) (bytes : (i : ℕ) → getD b i 0 < 256) where
+  pub rows-small : (first j : ℕ) → Small (patternFrom (description b l) first j)
+  unfolding patternFrom
+  rows-small first j = go (decLt (first + j) (l .constructors .count))
+    where
+      at : ℕ
+      at = l .constructors .start + 32 * (first + j)
+
+      go : Dec (first + j < l .constructors .count) → Small (getD (constructorsOf b l) (first + j) noConstructor .pattern)
+      go (yes h) =
+          rw (constructor-here b l (first + j) h)
+          (record {
+            mask = quad-small b bytes (at + 2);
+            value = quad-small b bytes (at + 10);
+            contextmask = long-small b bytes (at + 18);
+            contextvalue = long-small b bytes (at + 22);
+          })
+      go (no h) =
+          let e : getD (constructorsOf b l) (first + j) noConstructor ≡ noConstructor = List·getD-eq-default (constructorsOf b l) noConstructor (rw constructors-length (omega arith)) in
+          rw e (record { mask = lit< tt; value = lit< tt; contextmask = lit< tt; contextvalue = lit< tt })
+
+twice : (a : Bool) → not (not a) ≡ a
+twice true = refl
+twice false = refl
+
+module _ (at : ℕ → Pattern) (n : ℕ) (s : List ℕ) (c : ℕ) (i : Input) (small : (j : ℕ) → Small (at j)) (held : Holds s c i) where
+  short-is : (j : ℕ) → wordShort at i j ≡ short at n s c j
+  unfolding short cutOff
+  short-is j = rw (agrees-is (at j) s c i (small j) held, whole-is (at j) s c i (small j) held, twice)
+
+  match-is : (j : ℕ) → wordMatch at i j ≡ matching at n s c j
+  unfolding matching
+  match-is j =
+      rw (agrees-is (at j) s c i (small j) held, whole-is (at j) s c i (small j) held) (sym (matches-is (at j) s c))
+
+  strict : (t : ℕ) → Inmost at (wordMatch at i) n t → Strict at n s c t
+  strict t m =
+      record {
+        within = m .within;
+        matches = sym (match-is t) ∙ m .hits;
+        above = λ j h x y. m .above j h x (match-is j ∙ y);
+      }
+
+  inmost : (t : ℕ) → Strict at n s c t → Inmost at (wordMatch at i) n t
+  inmost t m =
+      record {
+        within = m .within;
+        hits = match-is t ∙ m .matches;
+        above = λ j h x y. m .above j h x (sym (match-is j) ∙ y);
+      }
+
+  pub cut-short : anyBelow n (wordShort at i) ≡ true → Short ≡ choose at n s c
+  cut-short e =
+      let r = any-found (wordShort at i) n e in
+      sym (choose-short at n s c (r .0) (r .1) (sym (short-is (r .0)) ∙ r .2))
+
+  pub settled : anyBelow n (wordShort at i) ≡ false → (r : Choice) → Settles at (wordMatch at i) n r → r ≡ choose at n s c
+  settled e Short m = absurd m
+  settled e NoMatch m =
+      sym (no-match-back at n s c (λ j h. (sym (match-is j) ∙ none-at (wordMatch at i) n m j h, sym (short-is j) ∙ none-at (wordShort at i) n e j h)))
+  settled e (Taken t) m = sym (choose-taken at n s c (ap (anyBelow n) (fun-ext (λ j. sym (short-is j))) ∙ e) t (strict t m))
+  settled e Ambiguous m =
+      sym
+      (choose-ambiguous at n s c (ap (anyBelow n) (fun-ext (λ j. sym (short-is j))) ∙ e) (ap (anyBelow n) (fun-ext (λ j. sym (match-is j))) ∙ m .0)
+      (λ t x. m .1 t (inmost t x)))

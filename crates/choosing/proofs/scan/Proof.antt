@@ -1,0 +1,120 @@
+use Rattle.format.specs.declared.Pattern.{Pattern}
+use Rattle.choosing.proofs.Keeping.{is-match, is-short, is-none}
+use Rattle.choosing.proofs.Keeping.{kept-none, kept-skip, kept-met, none-more}
+use Rattle.choosing.specs.Scan.{wordShort, wordMatch, Kept}
+use Rattle.choosing.specs.Table.{patternFrom}
+use Rattle.patterns.specs.Words.{wordsAgree, wordsWhole}
+use Rattle.format.specs.Description.{description}
+use Rattle.lists.proofs.Below.{any-none, any-at}
+use Rattle.lists.specs.Below.{anyBelow}
+use borrow.Author.Needs.{needs}
+use native.Mathlib.Omega.{arith}
+use mathlib.Core.Path.{_≡_, refl, sym, ap, _∙_}
+use mathlib.Core.Bool.{true, false, not, _&&_}
+use Prim.Native.Nat.{ℕ, _≤_, _-_}
+use Rattle.choosing.proofs.scan.Statement.{statement}
+use Rattle.choosing.proofs.scan.Tie as tie
+use Rattle.choosing.proofs.scan.Reads as reads
+use Rattle.choosing.proofs.scan.Lts as lts
+use Rattle.choosing.proofs.meet.Reads as meet-reads
+use Rattle.choosing.proofs.row.Reads as row-reads
+use Rattle.patterns.proofs.agrees.Reads as agrees-reads
+use Rattle.patterns.proofs.whole.Reads as whole-reads
+
+abbrev Inv-loop : tie.InvT-loop
+Inv-loop desc layout table input best₀ next₀ best next =
+    (next ≤ table .count)
+    × (anyBelow next (wordShort (patternFrom (description desc layout) (table .first)) input) ≡ false)
+    × Kept (patternFrom (description desc layout) (table .first)) (wordMatch (patternFrom (description desc layout) (table .first)) input) (table .count) next best
+
+abbrev μ-loop : tie.MeasureT-loop
+μ-loop desc layout table input best₀ next₀ best next = table .count - next
+
+-- the table's patterns
+abbrev rows : tie.Start Inv-loop μ-loop → ℕ → Pattern
+rows s = patternFrom (description (s .args .desc .now) (s .args .layout)) (s .args .table .first)
+
+-- src/lib.rt:77:5
+loop-holds : tie.Need-loop-holds Inv-loop μ-loop
+loop-holds c = (omega arith, any-none _, kept-none _ _ _)
+
+-- src/lib.rt:79:16
+add-next : tie.Need-add-next Inv-loop μ-loop
+add-next c = omega arith
+
+-- src/lib.rt:80:13
+row-requires : tie.Need-row-requires Inv-loop μ-loop
+row-requires c κs = (c .before .before .before .before .pre .0, omega arith)
+
+-- src/lib.rt:81:12
+agrees-requires : tie.Need-agrees-requires Inv-loop μ-loop
+agrees-requires c κs = search needs
+
+-- src/lib.rt:82:16
+whole-requires : tie.Need-whole-requires Inv-loop μ-loop
+whole-requires c κs = search needs
+
+-- src/lib.rt:83:17
+meet-requires : tie.Need-meet-requires Inv-loop μ-loop
+meet-requires c κs =
+    let k = c .before .before .before .before .before .before .before .loop .inv .2 in
+    (c .before .before .before .before .before .before .before .before .before .pre .0, (λ f. omega (arith, k .best f .0), c .before .before .before .before .row .ensures))
+
+-- src/lib.rt:77:5
+loop-less : tie.Need-loop-less Inv-loop μ-loop
+loop-less c = omega arith
+
+-- src/lib.rt:77:5
+loop-again : tie.Need-loop-again Inv-loop μ-loop
+loop-again c =
+    let inv = c .before .before .before .before .before .before .before .before .loop .inv in
+    let t = is-match (rows (c .before .before .before .before .before .before .before .before .before .before)) (c .before .before .before .before .before .before .before .before .before .before .args .input) (c .before .before .before .before .before .before .before .before .loop .next) (c .before .before .before .before .before .row .result) (c .before .before .before .before .before .row .ensures) (sym (c .before .before .before .before .agrees .ensures) ∙ c .before .before .before .if2 .taken) (sym (c .before .before .whole .ensures) ∙ c .before .if3 .taken) in (
+      omega arith,
+      none-more _ (c .before .before .before .before .before .before .before .before .loop .next) (inv .1) (t .0),
+      rw (c .meet .ensures) (kept-met _ _ _ (c .before .before .before .before .before .before .before .before .loop .next) (c .before .before .before .before .before .before .before .before .loop .best) (t .1) (inv .2) (omega arith)),
+    )
+
+-- src/lib.rt:85:17
+returns : tie.Need-returns Inv-loop μ-loop
+returns c =
+    any-at _ _ (c .before .before .before .before .before .before .before .loop .next) (c .before .before .before .before .before .if1 .taken)
+    (is-short (rows (c .before .before .before .before .before .before .before .before .before)) (c .before .before .before .before .before .before .before .before .before .args .input) (c .before .before .before .before .before .before .before .loop .next) (c .before .before .before .before .row .result) (c .before .before .before .before .row .ensures) (sym (c .before .before .before .agrees .ensures) ∙ c .before .before .if2 .taken) (sym (c .before .whole .ensures) ∙ c .if3 .left))
+
+-- src/lib.rt:77:5
+loop-less-2 : tie.Need-loop-less-2 Inv-loop μ-loop
+loop-less-2 c = omega arith
+
+-- src/lib.rt:77:5
+loop-again-2 : tie.Need-loop-again-2 Inv-loop μ-loop
+loop-again-2 c =
+    let inv = c .before .before .before .before .before .loop .inv in
+    let t = is-none (rows (c .before .before .before .before .before .before .before)) (c .before .before .before .before .before .before .before .args .input) (c .before .before .before .before .before .loop .next) (c .before .before .row .result) (c .before .before .row .ensures) (sym (c .before .agrees .ensures) ∙ c .if2 .left) in (
+      omega arith,
+      none-more _ (c .before .before .before .before .before .loop .next) (inv .1) (t .0),
+      kept-skip _ _ _ (c .before .before .before .before .before .loop .next) (c .before .before .before .before .before .loop .best) (t .1) (inv .2),
+    )
+
+-- src/lib.rt:66:1
+returns-2 : tie.Need-returns-2 Inv-loop μ-loop
+returns-2 c =
+    let s : c .before .before .loop .next ≡ c .before .before .before .before .args .table .count = omega arith in
+    (rw s at (c .before .before .loop .inv .1), rw s at (c .before .before .loop .inv .2))
+
+pub scan-spec : {M : Type 1} → statement M
+scan-spec =
+    tie.close
+    (tie.spec
+    Inv-loop
+    μ-loop
+    loop-holds
+    add-next
+    row-requires
+    agrees-requires
+    whole-requires
+    meet-requires
+    loop-less
+    loop-again
+    returns
+    loop-less-2
+    loop-again-2
+    returns-2)

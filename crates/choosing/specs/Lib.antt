@@ -1,0 +1,3 @@
+-- Choosing in a table of a description, and what the scan knows on its way.
+pub mod Table
+pub mod Scan

@@ -1,0 +1,60 @@
+-- One pass over a table: the record that lies inside the others so far.
+use Prim.Native.Nat.{ℕ, _<_, _+_}
+use mathlib.Core.Bool.{Bool, true, false, cond, _&&_, _||_, not}
+use mathlib.Core.Path.{_≡_}
+use lib.Dec.{eqb}
+use Rattle.lists.specs.Below.{anyBelow}
+use Rattle.format.specs.declared.Pattern.{Pattern}
+use Rattle.patterns.specs.Relations.{inside}
+use Rattle.patterns.specs.Words.{wordsAgree, wordsWhole}
+use Rattle.patterns.specs.declared.Input.{Input}
+use Rattle.choice.specs.declared.Choice.{Choice}
+use Rattle.choice.specs.declared.Choice.the-variants.{Short, NoMatch, Taken, Ambiguous}
+use Rattle.choosing.specs.declared.Best.{Best}
+use Rattle.choosing.specs.declared.Scanned.{Scanned}
+use Rattle.choosing.specs.declared.Scanned.the-variants.{Cut, All}
+
+-- record j, by the input's words: it masks a missing bit and agrees with all others; it matches
+abbrev pub wordShort : (ℕ → Pattern) → Input → ℕ → Bool
+wordShort at i j = wordsAgree (at j) i && not (wordsWhole (at j) i)
+
+abbrev pub wordMatch : (ℕ → Pattern) → Input → ℕ → Bool
+wordMatch at i j = wordsAgree (at j) i && wordsWhole (at j) i
+
+-- one more matching record: the inner one of the two is kept; where neither or each lies inside the other, that is in doubt
+unfoldable pub met : (ℕ → Pattern) → Best → ℕ → Best
+met at b j =
+    cond (b .found)
+    (cond (inside (at j) (at (b .at)))
+    (record { found = true; doubt = b .doubt || inside (at (b .at)) (at j); at = j })
+    (record { found = true; doubt = b .doubt || not (inside (at (b .at)) (at j)); at = b .at }))
+    (record { found = true; doubt = false; at = j })
+
+-- record t matches, lies inside every other matching one, and none of those lies inside it
+pub record Inmost (at : ℕ → Pattern) (hit : ℕ → Bool) (n t : ℕ) : Type 0 where
+  pub within : t < n
+  pub hits : hit t ≡ true
+  pub above : (j : ℕ) → j < n → (j ≡ t → ⊥) → hit j ≡ true → (inside (at t) (at j) ≡ true) × (inside (at j) (at t) ≡ false)
+
+-- what is known after the first j of n records
+pub record Kept (at : ℕ → Pattern) (hit : ℕ → Bool) (n j : ℕ) (b : Best) : Type 0 where
+  pub some : b .found ≡ anyBelow j hit
+  pub best : b .found ≡ true → (b .at < j) × (hit (b .at) ≡ true)
+  pub sure : b .found ≡ true → b .doubt ≡ false → Inmost at hit j (b .at)
+  pub held : (t : ℕ) → t < j → Inmost at hit n t → (b .found ≡ true) × (b .at ≡ t)
+
+-- what a whole pass tells
+abbrev pub Tells : (ℕ → Pattern) → Input → ℕ → Scanned → Type 0
+Tells at i n Cut = anyBelow n (wordShort at i) ≡ true
+Tells at i n (All b) = (anyBelow n (wordShort at i) ≡ false) × Kept at (wordMatch at i) n n b
+
+-- record j does not stand in the way of record t: it is t, or does not match, or t lies inside it and not it inside t
+unfoldable pub clears : (ℕ → Pattern) → (ℕ → Bool) → ℕ → ℕ → Bool
+clears at hit t j = eqb j t || not (hit j) || (inside (at t) (at j) && not (inside (at j) (at t)))
+
+-- what the records that match settle, where none is short
+abbrev pub Settles : (ℕ → Pattern) → (ℕ → Bool) → ℕ → Choice → Type 0
+Settles at hit n Short = ⊥
+Settles at hit n NoMatch = anyBelow n hit ≡ false
+Settles at hit n (Taken t) = Inmost at hit n t
+Settles at hit n Ambiguous = (anyBelow n hit ≡ true) × ((t : ℕ) → Inmost at hit n t → ⊥)

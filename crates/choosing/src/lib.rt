@@ -1,0 +1,146 @@
+// Choosing in a table of a well-formed description: one pass over the table's patterns, on machine words.
+use choice::Choice;
+use format::Layout;
+use format::Pattern;
+use patterns::Input;
+use tables::Table;
+ghost use mathlib.Core.Bool.{true, _&&_};
+ghost use mathlib.Core.Path.{_≡_};
+ghost use Rattle.lists.specs.Below.{allBelow};
+ghost use Prim.Native.Nat.{_+_, _<_, _≤_};
+ghost use Rattle.format.specs.Layout.{Room};
+ghost use Rattle.format.specs.Description.{description};
+ghost use Rattle.patterns.specs.Words.{wordsAgree, wordsWhole};
+ghost use Rattle.choice.specs.Choosing.{choose};
+ghost use Rattle.choosing.specs.Table.{patternFrom};
+ghost use Rattle.choosing.specs.Scan.{met, clears, wordMatch, Tells, Kept, Settles};
+
+// What a pass has found so far: whether a record matches, the one that lies inside the others, and whether that is in doubt.
+pub struct Best {
+    pub found: bool,
+    pub doubt: bool,
+    pub at: usize,
+}
+
+pub enum Scanned {
+    Cut,
+    All(Best),
+}
+
+pub fn row(desc: &[u8], layout: Layout, first: usize, j: usize) -> Pattern
+    requires { ⌜ Room (now desc) layout ⌝ }
+    requires { ⌜ first + j < layout .constructors .count ⌝ }
+    ensures { λ r. ⌜ r ≡ patternFrom (description (now (desc .entry)) layout) first j ⌝ }
+{
+    sections::pattern_of(desc, layout, first + j)
+}
+
+// One more matching record, with its pattern.
+fn meet(desc: &[u8], layout: Layout, first: usize, best: Best, j: usize, p: Pattern) -> Best
+    requires { ⌜ Room (now desc) layout ⌝ }
+    requires { ⌜ (best .found ≡ true → first + best .at < layout .constructors .count) ⌝ }
+    requires { ⌜ p ≡ patternFrom (description (now desc) layout) first j ⌝ }
+    ensures { λ r. ⌜ r ≡ met (patternFrom (description (now (desc .entry)) layout) first) best j ⌝ }
+{
+    if best.found {
+        let q = row(desc, layout, first, best.at);
+        let outer = patterns::lies_inside(q, p);
+        if patterns::lies_inside(p, q) {
+            return Best {
+                found: true,
+                doubt: best.doubt | outer,
+                at: j,
+            };
+        }
+        return Best {
+            found: true,
+            doubt: best.doubt | !outer,
+            at: best.at,
+        };
+    }
+    Best {
+        found: true,
+        doubt: false,
+        at: j,
+    }
+}
+
+fn scan(desc: &[u8], layout: Layout, table: Table, input: Input) -> Scanned
+    requires { ⌜ Room (now desc) layout ⌝ }
+    requires { ⌜ table .first + table .count ≤ layout .constructors .count ⌝ }
+    ensures { λ r. ⌜ Tells (patternFrom (description (now (desc .entry)) layout) (table .first)) input (table .count) r ⌝ }
+{
+    let mut best = Best {
+        found: false,
+        doubt: false,
+        at: 0,
+    };
+    let mut next = 0;
+    while next < table.count {
+        let j = next;
+        next = j + 1;
+        let p = row(desc, layout, table.first, j);
+        if patterns::agrees(p, input) {
+            if patterns::whole(p, input) {
+                best = meet(desc, layout, table.first, best, j, p);
+            } else {
+                return Scanned::Cut;
+            }
+        }
+    }
+    Scanned::All(best)
+}
+
+fn clears_all(desc: &[u8], layout: Layout, table: Table, input: Input, t: usize) -> bool
+    requires { ⌜ Room (now desc) layout ⌝ }
+    requires { ⌜ table .first + table .count ≤ layout .constructors .count ⌝ }
+    requires { ⌜ t < table .count ⌝ }
+    ensures { λ r. ⌜ r ≡ allBelow (table .count) (clears (patternFrom (description (now (desc .entry)) layout) (table .first)) (wordMatch (patternFrom (description (now (desc .entry)) layout) (table .first)) input) t) ⌝ }
+{
+    let q = row(desc, layout, table.first, t);
+    let mut j = 0;
+    while j < table.count {
+        let p = row(desc, layout, table.first, j);
+        let hit = patterns::agrees(p, input) & patterns::whole(p, input);
+        let clear = (j == t) | !hit | (patterns::lies_inside(q, p) & !patterns::lies_inside(p, q));
+        if clear {
+            j += 1;
+        } else {
+            return false;
+        }
+    }
+    true
+}
+
+// Where the pass left no doubt, its record is taken; else every record is looked at once more.
+fn settle(desc: &[u8], layout: Layout, table: Table, input: Input, best: Best) -> Choice
+    requires { ⌜ Room (now desc) layout ⌝ }
+    requires { ⌜ table .first + table .count ≤ layout .constructors .count ⌝ }
+    requires { ⌜ Kept (patternFrom (description (now desc) layout) (table .first)) (wordMatch (patternFrom (description (now desc) layout) (table .first)) input) (table .count) (table .count) best ⌝ }
+    ensures { λ r. ⌜ Settles (patternFrom (description (now (desc .entry)) layout) (table .first)) (wordMatch (patternFrom (description (now (desc .entry)) layout) (table .first)) input) (table .count) r ⌝ }
+{
+    if best.found {
+        if best.doubt {
+            if clears_all(desc, layout, table, input, best.at) {
+                return Choice::Taken(best.at);
+            }
+            return Choice::Ambiguous;
+        }
+        return Choice::Taken(best.at);
+    }
+    Choice::NoMatch
+}
+
+// The choice in a table, for the bytes of the code and a context.
+pub fn choose_in(desc: &[u8], layout: Layout, table: Table, code: &[u8], context: u32) -> Choice
+    requires { ⌜ Room (now desc) layout ⌝ }
+    requires { ⌜ table .first + table .count ≤ layout .constructors .count ⌝ }
+    ensures { λ r. ⌜ r ≡ choose (patternFrom (description (now (desc .entry)) layout) (table .first)) (table .count) (now (code .entry)) context ⌝ }
+{
+    let input = patterns::input_of(code, context);
+    let scanned = scan(desc, layout, table, input);
+    match scanned {
+        Scanned::Cut => Choice::Short,
+        Scanned::All(best) => settle(desc, layout, table, input, best),
+    }
+}

@@ -1,0 +1,47 @@
+-- "The clash check refuses 1, then 12", and answers the pair, by their records of section 3, or clear.
+use Prim.Native.Nat.{ℕ, _+_, _-_}
+use mathlib.Core.Bool.{cond}
+use mathlib.Core.List.{List, [], _∷_}
+use Rattle.format.specs.Check.{checkOf}
+use Rattle.format.specs.Description.{Description, description}
+use Rattle.format.specs.Rules.{hasTable}
+use Rattle.format.specs.Tables.{tableFirst, tableEnd}
+use Rattle.format.specs.declared.Checked.{Checked}
+use Rattle.format.specs.declared.Checked.the-variants.{Good, Fault}
+use Rattle.choice.specs.Clashing.{clashOf}
+use Rattle.choice.specs.declared.Clash.{Clash}
+use Rattle.choice.specs.declared.Clash.the-variants as clash
+use Rattle.choosing.specs.Table.{patternFrom}
+use Rattle.clashing.specs.declared.Judged.{Judged}
+use Rattle.clashing.specs.declared.Judged.the-variants.{Clear, Pair, Malformed, NoTable}
+
+-- a table's clash, by its records of section 3
+abbrev pub placed : ℕ → Clash → Judged
+placed first clash.Clear = Clear
+placed first (clash.Pair i j) = Pair (first + i) (first + j)
+
+unfoldable pub clashIn : Description → ℕ → Judged
+clashIn d t =
+    cond (hasTable d t) (placed (tableFirst d t) (clashOf (patternFrom d (tableFirst d t)) (tableEnd d t - tableFirst d t))) (NoTable t)
+
+abbrev pub judgedBy : List ℕ → ℕ → Checked → Judged
+judgedBy b t (Good l) = clashIn (description b l) t
+judgedBy b t (Fault k i) = Malformed k i
+
+-- bytes b as the description, table t
+unfoldable pub clashAnswer : List ℕ → ℕ → Judged
+clashAnswer b t = judgedBy b t (checkOf b)
+
+-- the answer's number in document 01's table: "a clash .. is an answer, not a refusal" ..
+abbrev pub numberOf : Judged → ℕ
+numberOf Clear = 0
+numberOf (Pair i j) = 0
+numberOf (Malformed k i) = 1
+numberOf (NoTable t) = 12
+
+-- .. and its values, unused ones 0: 0 for clear, or 1 and the pair
+abbrev pub valuesOf : Judged → List ℕ
+valuesOf Clear = 0 ∷ 0 ∷ 0 ∷ 0 ∷ []
+valuesOf (Pair i j) = 1 ∷ i ∷ j ∷ 0 ∷ []
+valuesOf (Malformed k i) = k ∷ i ∷ 0 ∷ 0 ∷ []
+valuesOf (NoTable t) = t ∷ 0 ∷ 0 ∷ 0 ∷ []

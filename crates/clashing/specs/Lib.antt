@@ -1,0 +1,2 @@
+-- The clash check of any bytes.
+pub mod Entry

@@ -1,0 +1,2 @@
+-- Laws of a table's range, for the layers above.
+pub mod Range

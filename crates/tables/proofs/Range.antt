@@ -1,0 +1,22 @@
+-- What `table_of` found: whether the table is there, and that its constructors lie in their section.
+use Prim.Native.Nat.{ℕ, _+_, _-_, _≤_}
+use mathlib.Core.Bool.{true, false}
+use mathlib.Core.Path.{_≡_, _∙_}
+use native.Mathlib.Omega.{arith}
+use borrow.Author.Tests.{lt-ltb, le-ltb}
+use lib.ListN.{length}
+use Rattle.format.specs.Description.{Description}
+use Rattle.format.specs.Rules.{hasTable}
+use Rattle.format.specs.Tables.{tableFirst, tableEnd}
+use Rattle.format.proofs.Formation.{Obeyed}
+use Rattle.format.proofs.Tables.{has-range, first-within, end-within}
+
+module _ (d : Description) (o : Obeyed d) (t first count : ℕ) (f : first ≡ tableFirst d t) (g : count ≡ tableEnd d t - tableFirst d t) where
+  pub absent : count ≡ 0 → hasTable d t ≡ false
+  absent z = has-range d o t ∙ le-ltb (tableFirst d t) (tableEnd d t) (omega arith)
+
+  pub there : (count ≡ 0 → ⊥) → hasTable d t ≡ true
+  there z = has-range d o t ∙ lt-ltb (tableFirst d t) (tableEnd d t) (omega (arith, z))
+
+  pub in-section : first + count ≤ length (d .constructors)
+  in-section = omega (arith, first-within d o t, end-within d o t)
