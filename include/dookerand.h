@@ -20,6 +20,15 @@ extern "C" {
 /* Judges a description. 0: well formed. 1: section, record of its first fault (record 65,535 is the section itself). */
 uint32_t dookerand_check(const uint8_t *description, size_t description_len, uint64_t values[4]);
 
+/* Asks one table for the constructor that it takes for the code's bytes and a context.
+ * 0: constructor, weight. 1: section, record. 12: the table number. 2: 0. 3 and 4: 0, table number. */
+uint32_t dookerand_ask(const uint8_t *description, size_t description_len, uint32_t table, uint32_t context,
+                       const uint8_t *code, size_t code_len, uint64_t values[4]);
+
+/* The clash check of one table. 0: 0 for a clear table, or 1 and the pair of constructors. 1: section, record.
+ * 12: the table number. */
+uint32_t dookerand_clash(const uint8_t *description, size_t description_len, uint32_t table, uint64_t values[4]);
+
 #ifdef __cplusplus
 }
 #endif

@@ -17,7 +17,7 @@ use Rattle.choosing_facts.proofs.Inside.{inside-trans}
 use Rattle.choosing.specs.Scan.{met, clears, wordShort, wordMatch, Inmost, Kept}
 use Rattle.choosing.specs.declared.Best.{Best}
 
-neither : (a b : Bool) → (a || b) ≡ false → (a ≡ false) × (b ≡ false)
+pub neither : (a b : Bool) → (a || b) ≡ false → (a ≡ false) × (b ≡ false)
 neither true b e = absurd (false≢true (sym e))
 neither false b e = (refl, e)
 

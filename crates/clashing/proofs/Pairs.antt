@@ -1,36 +1,71 @@
 -- A pair by the patterns that were read, and the pair that the loops find.
 use Prim.Native.Nat.{ℕ, _+_, _-_, _<_, _≤_}
-use mathlib.Core.Bool.{Bool, true, false, not, _&&_}
+use mathlib.Core.Bool.{Bool, true, false, not, _&&_, _||_, false≢true}
 use mathlib.Core.Path.{_≡_, refl, sym, _∙_}
 use native.Mathlib.Omega.{arith}
-use borrow.Author.Tests.{lt-ltb, le-ltb, le-leb, lt-leb}
+use borrow.Author.Tests.{lt-ltb, le-ltb, le-leb, lt-leb, eq-eqb, eqb-true}
 use lib.Dec.{eqb, ltb, leb}
 use Rattle.lists.specs.Below.{allBelow, anyBelow, firstBelow}
+use Rattle.lists.proofs.Bools.{and4, and-both, or-yes}
 use Rattle.lists.proofs.Below.{all-of, all-more, first-stop, first-done}
+use Rattle.bits.specs.Bits.{bit, isSet}
 use Rattle.format.specs.Description.{Description}
 use Rattle.format.specs.Rules.{hasTable}
 use Rattle.format.specs.Tables.{tableFirst, tableEnd}
 use Rattle.format.specs.declared.Pattern.{Pattern}
-use Rattle.patterns.specs.Relations.{inside, overlap, overlapOf, equal}
+use Rattle.patterns.specs.Relations.{inside, meetBits, overlap, overlapOf, equal}
 use Rattle.choice.specs.Clashing.{crossing, third, clashing, partner, firstClash, clashOf}
 use Rattle.choice.specs.declared.Clash.{Clash}
 use Rattle.choice.specs.declared.Clash.the-variants.{Clear, Pair}
 use Rattle.choosing.specs.Table.{patternFrom}
+use Rattle.choosing.proofs.Keeping.{neither}
 use Rattle.clashing.specs.Entry.{placed, clashIn}
 
+-- equal patterns overlap
+meet-same : (n am bm v : ℕ) → meetBits n am v bm v ≡ true
+unfolding meetBits
+meet-same n am bm v =
+    all-of (λ k. not (isSet am k && isSet bm k) || eqb (bit v k) (bit v k)) n
+    (λ k h. rw (eq-eqb (bit v k) (bit v k) refl) (or-yes (not (isSet am k && isSet bm k))))
+
+equal-overlap : (a b : Pattern) → equal a b ≡ true → overlap a b ≡ true
+unfolding overlap
+equal-overlap a b e =
+    let r = and4 (eqb (a .mask) (b .mask)) (eqb (a .value) (b .value)) (eqb (a .contextmask) (b .contextmask)) (eqb (a .contextvalue) (b .contextvalue)) e in
+    rw (eqb-true (a .value) (b .value) (r .1), eqb-true (a .contextvalue) (b .contextvalue) (r .3))
+    (and-both (meetBits 64 (a .mask) (b .value) (b .mask) (b .value)) (meetBits 32 (a .contextmask) (b .contextvalue) (b .contextmask) (b .contextvalue))
+    (meet-same 64 (a .mask) (b .mask) (b .value)) (meet-same 32 (a .contextmask) (b .contextmask) (b .contextvalue)))
+
 module _ (at : ℕ → Pattern) (n i j : ℕ) (a b : Pattern) (e : a ≡ at i) (f : b ≡ at j) where
+  -- a pair that does not overlap does not clash
+  pub clash-apart : overlap a b ≡ false → false ≡ clashing at n i j
+  unfolding clashing crossing
+  clash-apart o = go (equal a b) refl
+    where
+      go : (t : Bool) → equal a b ≡ t → false ≡ clashing at n i j
+      go true h = absurd (false≢true (sym o ∙ equal-overlap a b h))
+      go false h = rw (← e, ← f, h, o)
+
   pub clash-same : equal a b ≡ true → true ≡ clashing at n i j
   unfolding clashing
   clash-same h = rw (← e, ← f, h)
 
-  pub clash-crossing : equal a b ≡ false → (overlap a b && not (inside a b) && not (inside b a)) ≡ true → (t : Bool)
+  pub clash-nested : equal a b ≡ false → (inside a b || inside b a) ≡ true → false ≡ clashing at n i j
+  unfolding clashing crossing
+  clash-nested h x = rw (← e, ← f, h) (go (overlap a b) (inside a b) (inside b a) (third at n i j) x)
+    where
+      go : (o p q t : Bool) → (p || q) ≡ true → false ≡ (o && not p && not q && not t)
+      go false p q t y = refl
+      go true true q t y = refl
+      go true false true t y = refl
+      go true false false t y = absurd (false≢true y)
+
+  pub clash-crossing : overlap a b ≡ true → equal a b ≡ false → (inside a b || inside b a) ≡ false → (t : Bool)
       → t ≡ anyBelow n (λ t. not (eqb t i) && not (eqb t j) && equal (at t) (overlapOf a b)) → not t ≡ clashing at n i j
   unfolding clashing crossing third
-  clash-crossing h x t g = rw (← e, ← f, h, x, g)
-
-  pub clash-not : equal a b ≡ false → (overlap a b && not (inside a b) && not (inside b a)) ≡ false → false ≡ clashing at n i j
-  unfolding clashing crossing third
-  clash-not h x = rw (← e, ← f, h, x)
+  clash-crossing o h x t g =
+      let y = neither (inside a b) (inside b a) x in
+      rw (← e, ← f, h, o, y .0, y .1, g)
 
 module _ (at : ℕ → Pattern) (n : ℕ) where
   -- record j is no partner of i

@@ -4,7 +4,7 @@ use format::Checked;
 use format::Layout;
 use format::Pattern;
 use tables::Table;
-ghost use mathlib.Core.Bool.{_&&_, not};
+ghost use mathlib.Core.Bool.{true, _&&_, not};
 ghost use mathlib.Core.Path.{_≡_};
 ghost use Prim.Native.Nat.{_+_, _<_, _≤_};
 ghost use lib.Dec.{eqb};
@@ -12,7 +12,7 @@ ghost use Rattle.lists.specs.Below.{anyBelow};
 ghost use Rattle.format.specs.Layout.{Room};
 ghost use Rattle.format.specs.Check.{Formed};
 ghost use Rattle.format.specs.Description.{description};
-ghost use Rattle.patterns.specs.Relations.{equal};
+ghost use Rattle.patterns.specs.Relations.{equal, overlap};
 ghost use Rattle.choice.specs.Clashing.{clashing, partner, clashOf};
 ghost use Rattle.choosing.specs.Table.{patternFrom};
 ghost use Rattle.clashing.specs.Entry.{clashIn, clashAnswer};
@@ -41,7 +41,35 @@ fn has_third(desc: &[u8], layout: Layout, table: Table, i: usize, j: usize, p: P
     false
 }
 
-// Whether records i and j, with patterns a and b, clash.
+// The same for a pair that overlaps.
+fn crosses(
+    desc: &[u8],
+    layout: Layout,
+    table: Table,
+    i: usize,
+    j: usize,
+    a: Pattern,
+    b: Pattern,
+) -> bool
+    requires { ⌜ Room (now desc) layout ⌝ }
+    requires { ⌜ table .first + table .count ≤ layout .constructors .count ⌝ }
+    requires { ⌜ a ≡ patternFrom (description (now desc) layout) (table .first) i ⌝ }
+    requires { ⌜ b ≡ patternFrom (description (now desc) layout) (table .first) j ⌝ }
+    requires { ⌜ overlap a b ≡ true ⌝ }
+    ensures { λ r. ⌜ r ≡ clashing (patternFrom (description (now (desc .entry)) layout) (table .first)) (table .count) i j ⌝ }
+{
+    if patterns::same(a, b) {
+        return true;
+    }
+    if patterns::lies_inside(a, b) | patterns::lies_inside(b, a) {
+        return false;
+    }
+    let p = patterns::joined(a, b);
+    let third = has_third(desc, layout, table, i, j, p);
+    !third
+}
+
+// Whether records i and j, with patterns a and b, clash. Most pairs of a table are apart, so that is tested first.
 fn clashes(
     desc: &[u8],
     layout: Layout,
@@ -57,13 +85,8 @@ fn clashes(
     requires { ⌜ b ≡ patternFrom (description (now desc) layout) (table .first) j ⌝ }
     ensures { λ r. ⌜ r ≡ clashing (patternFrom (description (now (desc .entry)) layout) (table .first)) (table .count) i j ⌝ }
 {
-    if patterns::same(a, b) {
-        return true;
-    }
-    if patterns::overlaps(a, b) & !patterns::lies_inside(a, b) & !patterns::lies_inside(b, a) {
-        let p = patterns::joined(a, b);
-        let third = has_third(desc, layout, table, i, j, p);
-        return !third;
+    if patterns::overlaps(a, b) {
+        return crosses(desc, layout, table, i, j, a, b);
     }
     false
 }

@@ -1,67 +1,59 @@
-//! Times the proved check beside the reference's.
+//! Times the proved library beside the reference.
 //!
 //! `bench one` makes exactly one proved check of the longest description,
-//! for counting instructions.
+//! for counting instructions. With asking there are `bench one-ask`, one
+//! question to a table of 512 constructors, `bench one-clash`, its clash
+//! check, and `bench one-check`, the check that both of them begin with.
+
+mod choosing;
+mod timing;
 
 use std::hint::black_box;
-use std::time::Instant;
 
+use dookerand::Answer;
 use generate::example::description_s;
 use generate::{bytes, longest};
 
-const ROUNDS: usize = 21;
+use timing::{median, print, rounds};
 
 fn main() {
     match std::env::args().nth(1).as_deref() {
-        None => {
-            compare("longest", &bytes(&longest()), 200);
-            compare("S", &bytes(&description_s()), 100_000);
-        }
-        Some("one") => {
-            let description = bytes(&longest());
-            let answer = dookerand::check(black_box(&description));
-            println!("{} {:?}", answer.number, answer.values);
-        }
+        None => all(),
+        Some("one") => print_answer(dookerand::check(black_box(&bytes(&longest())))),
+        Some("one-ask") => print_answer(choosing::one_ask()),
+        Some("one-clash") => print_answer(choosing::one_clash()),
+        Some("one-check") => print_answer(choosing::one_check()),
         Some(_) => {
-            eprintln!("usage: bench [one]");
+            eprintln!("usage: bench [one | one-ask | one-clash | one-check]");
             std::process::exit(2);
         }
     }
 }
 
-/// Prints the median microseconds of each check, and their ratio. Rounds
-/// take turns so that both meet the same disturbances.
-fn compare(name: &str, description: &[u8], calls: usize) {
-    let mut proved = Vec::new();
-    let mut reference = Vec::new();
-    for _ in 0..ROUNDS {
-        proved.push(microseconds(calls, || {
-            let answer = dookerand::check(black_box(description));
-            assert_eq!(black_box(answer).number, 0);
-        }));
-        reference.push(microseconds(calls, || {
-            let checked = reference::check(black_box(description));
-            assert!(black_box(checked).is_ok());
-        }));
-    }
-    let (proved, reference) = (median(proved), median(reference));
-    println!(
-        "{name}, {} bytes: proved {proved:.3} us, reference {reference:.3} us, ratio {:.2}",
-        description.len(),
-        proved / reference,
-    );
+fn all() {
+    check("longest", &bytes(&longest()), 10);
+    check("S", &bytes(&description_s()), 5_000);
+    choosing::all();
 }
 
-/// Microseconds of one call, over so many.
-fn microseconds(calls: usize, call: impl Fn()) -> f64 {
-    let started = Instant::now();
-    for _ in 0..calls {
-        call();
-    }
-    started.elapsed().as_secs_f64() * 1e6 / calls as f64
+fn print_answer(answer: Answer) {
+    println!("{} {:?}", answer.number, answer.values);
 }
 
-fn median(mut times: Vec<f64>) -> f64 {
-    times.sort_by(f64::total_cmp);
-    times[times.len() / 2]
+fn check(name: &str, description: &[u8], calls: usize) {
+    let proved = |_| proved_check(description);
+    let reference = |_| reference_check(description);
+    let [proved, reference] = rounds(calls, [&proved, &reference]);
+    let name = format!("check of {name}, {} bytes", description.len());
+    print(&name, median(&proved), median(&reference));
+}
+
+fn proved_check(description: &[u8]) {
+    let answer = dookerand::check(black_box(description));
+    assert_eq!(black_box(answer).number, 0);
+}
+
+fn reference_check(description: &[u8]) {
+    let checked = reference::check(black_box(description));
+    assert!(black_box(checked).is_ok());
 }

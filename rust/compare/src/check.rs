@@ -5,15 +5,21 @@ use generate::{
     bytes, change_bytes, change_counts, change_records, count_faults, insert_or_remove, limits,
     longest, random_records, rules, section_starts, well_formed, Rng, Size, CHANGES,
 };
-use reference::{Description, Fault};
+use reference::{Description, Fault, WHOLE_SECTION};
 
+use crate::agreed::agreed;
 use crate::tally::Tally;
 
+const COLUMNS: &[&str] = &[
+    "well", "counts", "rec 1", "rec 2", "rec 3", "rec 4", "rec 5", "rec 6",
+];
+
 /// Compares the check on every kind of description.
-pub fn compare(rng: &mut Rng) -> Tally {
+pub fn compare(rng: &mut Rng) {
     let mut check = Check {
         rng,
-        tally: Tally::default(),
+        tally: Tally::new(COLUMNS),
+        whole: [0; 6],
         kind: "",
     };
     check.cuts_of_s();
@@ -29,7 +35,8 @@ pub fn compare(rng: &mut Rng) -> Tally {
     check.changed("inserted or removed", 10_000, insert_or_remove);
     check.changed("counts changed", 5_000, change_counts);
     check.random_bytes();
-    check.tally
+    print!("{}", check.tally);
+    println!("faults of counts, by section: {:?}", check.whole);
 }
 
 /// Changes that are tried on one base.
@@ -38,6 +45,8 @@ const CHANGES_EACH: usize = 5;
 struct Check<'a> {
     rng: &'a mut Rng,
     tally: Tally,
+    /// For each section, faults of its count or length.
+    whole: [usize; 6],
     kind: &'static str,
 }
 
@@ -45,21 +54,27 @@ impl Check<'_> {
     /// Compares one description.
     fn one(&mut self, description: &[u8]) -> Option<Fault> {
         let expected = reference::requests::check(description);
-        let (number, values) = expected.number_and_values();
         let answer = dookerand::check(description);
-        if (answer.number, answer.values) != (number, values) {
-            println!("difference at \"{}\"", self.kind);
-            println!("reference {number} {values:?}");
-            println!("library   {} {:?}", answer.number, answer.values);
-            print_hex(description);
-            std::process::exit(1);
-        }
+        let request = || "check".to_string();
+        let (number, values) = agreed(self.kind, request, description, &expected, answer);
         let fault = (number == 1).then_some(Fault {
             section: values[0] as u16,
             record: values[1] as u16,
         });
-        self.tally.count(self.kind, fault);
+        self.count(fault);
         fault
+    }
+
+    fn count(&mut self, fault: Option<Fault>) {
+        let column = match fault {
+            None => 0,
+            Some(Fault { section, record }) if record == WHOLE_SECTION => {
+                self.whole[usize::from(section) - 1] += 1;
+                1
+            }
+            Some(Fault { section, .. }) => 1 + usize::from(section),
+        };
+        self.tally.count(self.kind, column);
     }
 
     /// Compares one description of which the fault is known.
@@ -222,13 +237,5 @@ impl Check<'_> {
             let description: Vec<u8> = (0..length).map(|_| self.rng.byte()).collect();
             self.one(&description);
         }
-    }
-}
-
-fn print_hex(bytes: &[u8]) {
-    println!("{} bytes:", bytes.len());
-    for line in bytes.chunks(32) {
-        let digits: Vec<String> = line.iter().map(|byte| format!("{byte:02x}")).collect();
-        println!("{}", digits.join(" "));
     }
 }

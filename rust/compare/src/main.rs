@@ -1,7 +1,9 @@
 //! Compares the proved library with the reference on generated input, which
 //! depends on the seed alone. It stops at the first difference.
 
+mod agreed;
 mod check;
+mod choosing;
 mod tally;
 
 use std::time::Instant;
@@ -19,9 +21,14 @@ fn main() {
             std::process::exit(2);
         }
     };
+    println!("seed {seed}");
+    timed("check", || check::compare(&mut Rng::new(seed)));
+    timed("ask and clash", || choosing::compare(&mut Rng::new(seed)));
+}
+
+fn timed(name: &str, compare: impl FnOnce()) {
     let started = Instant::now();
-    let tally = check::compare(&mut Rng::new(seed));
-    println!("check, seed {seed}:");
-    print!("{tally}");
-    println!("no difference, {:.1} s", started.elapsed().as_secs_f64());
+    compare();
+    let seconds = started.elapsed().as_secs_f64();
+    println!("{name}: no difference, {seconds:.1} s");
 }

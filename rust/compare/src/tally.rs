@@ -2,91 +2,62 @@
 
 use std::fmt::{Display, Formatter, Result};
 
-use reference::{Fault, WHOLE_SECTION};
+const KIND_WIDTH: usize = 24;
 
-/// What the check said of one kind of description.
-#[derive(Clone, Copy, Default)]
-struct Line {
-    well_formed: usize,
-    /// For each section, faults of its count or length.
-    whole: [usize; 6],
-    /// For each section, faults of its records.
-    records: [usize; 6],
-}
-
-impl Line {
-    fn total(&self) -> usize {
-        self.well_formed + self.faults(&self.whole) + self.faults(&self.records)
-    }
-
-    fn faults(&self, sections: &[usize; 6]) -> usize {
-        sections.iter().sum()
-    }
-
-    fn add(&mut self, other: &Line) {
-        self.well_formed += other.well_formed;
-        for section in 0..6 {
-            self.whole[section] += other.whole[section];
-            self.records[section] += other.records[section];
-        }
-    }
-}
-
-#[derive(Default)]
+/// A line of counts for each kind of request.
 pub struct Tally {
-    lines: Vec<(&'static str, Line)>,
+    columns: &'static [&'static str],
+    lines: Vec<(&'static str, Vec<usize>)>,
 }
 
 impl Tally {
-    /// Counts one description of a kind. A kind's descriptions come
-    /// together.
-    pub fn count(&mut self, kind: &'static str, fault: Option<Fault>) {
-        if self.lines.last().is_none_or(|(last, _)| *last != kind) {
-            self.lines.push((kind, Line::default()));
-        }
-        let Some((_, line)) = self.lines.last_mut() else {
-            return;
-        };
-        match fault {
-            None => line.well_formed += 1,
-            Some(Fault { section, record }) => {
-                let section = usize::from(section) - 1;
-                match record {
-                    WHOLE_SECTION => line.whole[section] += 1,
-                    _ => line.records[section] += 1,
-                }
-            }
+    pub fn new(columns: &'static [&'static str]) -> Tally {
+        Tally {
+            columns,
+            lines: Vec::new(),
         }
     }
+
+    /// Counts one request of a kind in a column. Kinds are shown in the order
+    /// of their first requests.
+    pub fn count(&mut self, kind: &'static str, column: usize) {
+        let found = self.lines.iter().rposition(|(line, _)| *line == kind);
+        let line = found.unwrap_or_else(|| {
+            self.lines.push((kind, vec![0; self.columns.len()]));
+            self.lines.len() - 1
+        });
+        self.lines[line].1[column] += 1;
+    }
+
+    fn sums(&self) -> Vec<usize> {
+        let column = |i: usize| self.lines.iter().map(|(_, counts)| counts[i]).sum();
+        (0..self.columns.len()).map(column).collect()
+    }
+
+    fn write_line(&self, f: &mut Formatter<'_>, kind: &str, counts: &[usize]) -> Result {
+        write!(f, "{kind:KIND_WIDTH$}")?;
+        write!(f, "{:>9}", counts.iter().sum::<usize>())?;
+        for (count, name) in counts.iter().zip(self.columns) {
+            write!(f, "{count:>0$}", width(name))?;
+        }
+        writeln!(f)
+    }
+}
+
+fn width(name: &str) -> usize {
+    name.len().max(6) + 2
 }
 
 impl Display for Tally {
     fn fmt(&self, f: &mut Formatter<'_>) -> Result {
-        write!(f, "{:24}{:>8}{:>8}{:>8}", "kind", "all", "well", "counts")?;
-        for section in 1..=6 {
-            write!(f, "{:>8}", format!("rec {section}"))?;
+        write!(f, "{:KIND_WIDTH$}{:>9}", "kind", "all")?;
+        for name in self.columns {
+            write!(f, "{name:>0$}", width(name))?;
         }
         writeln!(f)?;
-        let mut sum = Line::default();
-        for (kind, line) in &self.lines {
-            write_line(f, kind, line)?;
-            sum.add(line);
+        for (kind, counts) in &self.lines {
+            self.write_line(f, kind, counts)?;
         }
-        write_line(f, "sum", &sum)?;
-        writeln!(f, "faults of counts, by section: {:?}", sum.whole)
+        self.write_line(f, "sum", &self.sums())
     }
-}
-
-fn write_line(f: &mut Formatter<'_>, kind: &str, line: &Line) -> Result {
-    let whole = line.faults(&line.whole);
-    write!(
-        f,
-        "{kind:24}{:>8}{:>8}{whole:>8}",
-        line.total(),
-        line.well_formed
-    )?;
-    for count in line.records {
-        write!(f, "{count:>8}")?;
-    }
-    writeln!(f)
 }

@@ -1,5 +1,9 @@
 //! The proved decoder, made safe to call.
 
+mod choosing;
+
+pub use choosing::{ask, clash};
+
 mod c {
     extern "C" {
         pub fn dookerand_check(

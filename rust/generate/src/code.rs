@@ -1,6 +1,6 @@
 //! Code and contexts that a description's patterns are likely to match.
 
-use reference::{Constructor, Description};
+use reference::{Constructor, Description, Pattern};
 
 use crate::Rng;
 
@@ -32,6 +32,46 @@ pub fn context(rng: &mut Rng, d: &Description) -> u32 {
         1 => pattern.context_value,
         _ => pattern.context_value | rng.word() as u32 & !pattern.context_mask,
     }
+}
+
+/// Bytes from an asked table's constructor's start on, and a context.
+#[derive(Clone, Copy, Debug)]
+pub struct Input {
+    pub code: [u8; 10],
+    pub context: u32,
+}
+
+/// An input that one or two of the patterns match, at times with a few of
+/// the bits changed that some pattern masks.
+pub fn input(rng: &mut Rng, patterns: &[Pattern]) -> Input {
+    let mut matched = rng.pick(patterns);
+    let other = rng.pick(patterns);
+    if matched.overlaps(&other) {
+        matched = matched.overlap(&other);
+    }
+    let any = rng.word();
+    let rest = rng.pick(&[0, u64::MAX, any, any]);
+    let mut bytes = matched.byte_value | rest & !matched.byte_mask;
+    let mut context = matched.context_value | rest as u32 & !matched.context_mask;
+    for _ in 0..rng.pick(&[0, 0, 0, 1, 1, 2, 3]) {
+        let masked = rng.pick(patterns);
+        bytes ^= some_bit(rng, masked.byte_mask);
+        if rng.once_in(3) {
+            context ^= some_bit(rng, masked.context_mask.into()) as u32;
+        }
+    }
+    if rng.once_in(16) {
+        context = rng.word() as u32;
+    }
+    let mut code = [rng.byte(); 10];
+    code[..8].copy_from_slice(&bytes.to_le_bytes());
+    Input { code, context }
+}
+
+/// One of the mask's bits; none of none.
+fn some_bit(rng: &mut Rng, mask: u64) -> u64 {
+    let bit = rng.index_where(64, |bit| mask >> bit & 1 == 1);
+    bit.map_or(0, |bit| 1 << bit)
 }
 
 fn some_of_root(rng: &mut Rng, d: &Description) -> Constructor {

@@ -91,13 +91,14 @@ impl Answer {
     }
 }
 
+/// The end, the rows written and the next byte.
 fn swept_values(sweep: &Sweep) -> [u64; 4] {
     let end = match sweep.end {
         End::Used => 0,
         End::Full => 1,
         End::Short => 2,
     };
-    values([sweep.rows.len() as u64, sweep.next as u64, end])
+    values([end, sweep.rows.len() as u64, sweep.next as u64])
 }
 
 fn values<const N: usize>(used: [u64; N]) -> [u64; 4] {

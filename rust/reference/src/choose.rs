@@ -49,14 +49,13 @@ struct View {
 
 impl View {
     fn of(code: &[u8], context: u32) -> View {
-        let seen = code.len().min(8);
-        let mut bytes = [0; 8];
-        let mut present = [0; 8];
-        bytes[..seen].copy_from_slice(&code[..seen]);
-        present[..seen].fill(0xff);
+        let (bytes, present) = match code.first_chunk() {
+            Some(bytes) => (u64::from_le_bytes(*bytes), u64::MAX),
+            None => first_bytes(code),
+        };
         View {
-            bytes: u64::from_le_bytes(bytes),
-            present: u64::from_le_bytes(present),
+            bytes,
+            present,
             context,
         }
     }
@@ -74,6 +73,13 @@ impl View {
     }
 }
 
+/// Fewer than eight bytes, and a mask of those.
+fn first_bytes(code: &[u8]) -> (u64, u64) {
+    let bytes = code.iter().rev();
+    let joined = bytes.fold(0, |joined, &byte| joined << 8 | u64::from(byte));
+    (joined, (1 << (8 * code.len())) - 1)
+}
+
 /// Chooses among the constructors of a table.
 pub fn choose(
     description: &Description,
@@ -82,27 +88,53 @@ pub fn choose(
     code: &[u8],
 ) -> Choice {
     let view = View::of(code, context);
+    let mut matching = Matching::default();
     let constructors = &description.constructors[records.clone()];
-    let agreeing = || {
-        records
-            .clone()
-            .zip(constructors.iter().map(|c| &c.pattern))
-            .filter(|(_, pattern)| view.agrees(pattern))
-    };
-    if agreeing().any(|(_, pattern)| view.lacks_bytes_of(pattern)) {
-        return Choice::Short;
+    for (record, constructor) in records.zip(constructors) {
+        let pattern = &constructor.pattern;
+        if view.agrees(pattern) {
+            if view.lacks_bytes_of(pattern) {
+                return Choice::Short;
+            }
+            matching.add(record, pattern);
+        }
     }
-    // Matching patterns have the same values where both mask a bit, so the
-    // one inside all others is their common overlap.
-    let smallest = agreeing()
-        .map(|(_, pattern)| *pattern)
-        .reduce(|a, b| a.overlap(&b));
-    let Some(smallest) = smallest else {
-        return Choice::NoMatch;
-    };
-    let mut taken = agreeing().filter(|(_, pattern)| **pattern == smallest);
-    match (taken.next(), taken.next()) {
-        (Some((constructor, _)), None) => Choice::Taken(constructor),
-        _ => Choice::Ambiguous,
+    matching.choice()
+}
+
+/// The matching constructors met so far. Their values agree, so masks
+/// decide: the one inside all others masks every bit that any of them does.
+#[derive(Default)]
+struct Matching {
+    byte_mask: u64,
+    context_mask: u32,
+    any: bool,
+    /// How many mask all of these bits, and the last of them.
+    smallest: usize,
+    taken: usize,
+}
+
+impl Matching {
+    fn add(&mut self, record: usize, pattern: &Pattern) {
+        let before = (self.byte_mask, self.context_mask);
+        self.any = true;
+        self.byte_mask |= pattern.byte_mask;
+        self.context_mask |= pattern.context_mask;
+        let now = (self.byte_mask, self.context_mask);
+        if now != before {
+            self.smallest = 0;
+        }
+        if now == (pattern.byte_mask, pattern.context_mask) {
+            self.smallest += 1;
+            self.taken = record;
+        }
+    }
+
+    fn choice(&self) -> Choice {
+        match self.smallest {
+            _ if !self.any => Choice::NoMatch,
+            1 => Choice::Taken(self.taken),
+            _ => Choice::Ambiguous,
+        }
     }
 }

@@ -1,7 +1,7 @@
 //! Choosing and the clash check, against the rules taken bit by bit.
 
 use generate::example::constructor;
-use generate::{code, context, well_formed, Rng, Size};
+use generate::{code, context, input, meeting_tables, table_ranges, well_formed, Rng, Size};
 use reference::{ask, clash, Clash, Description, Pattern, Refusal, Taken};
 
 fn table_of(patterns: &[(u64, u64)]) -> Description {
@@ -157,6 +157,18 @@ fn clash_by_the_rules(d: &Description, table: u32) -> Clash {
     Clash::Clear
 }
 
+/// Asks by both ways; the answer's number.
+fn asked(d: &Description, table: u32, context: u32, code: &[u8]) -> usize {
+    let asked = ask(d, table, context, code);
+    assert_eq!(asked, ask_by_the_rules(d, table, context, code), "{d:?}");
+    asked.map_or_else(|refusal| refusal.number_and_values().0, |_| 0) as usize
+}
+
+fn all_common(answers: [usize; 5]) {
+    let common = [answers[0], answers[2], answers[3], answers[4]];
+    assert!(common.iter().all(|&count| count > 100), "{answers:?}");
+}
+
 #[test]
 fn random_tables() {
     let rng = &mut Rng::new(4);
@@ -168,14 +180,34 @@ fn random_tables() {
             assert_eq!(clear, clash_by_the_rules(&d, table));
             for _ in 0..10 {
                 let (code, context) = (code(rng, &d, 9), context(rng, &d));
-                let asked = ask(&d, table, context, &code);
-                assert_eq!(asked, ask_by_the_rules(&d, table, context, &code));
-                let number = asked.map_or_else(|refusal| refusal.number_and_values().0, |_| 0);
-                answers[number as usize] += 1;
+                let number = asked(&d, table, context, &code);
+                answers[number] += 1;
                 assert!(clear != Clash::Clear || number != 4);
             }
         }
     }
-    let common = [answers[0], answers[2], answers[3], answers[4]];
-    assert!(common.iter().all(|&count| count > 100), "{answers:?}");
+    all_common(answers);
+}
+
+#[test]
+fn tables_of_patterns_that_meet() {
+    let rng = &mut Rng::new(5);
+    let mut answers = [0; 5];
+    for most in [1, 3, 8, 20].repeat(60) {
+        let d = meeting_tables(rng, most);
+        for range in table_ranges(&d) {
+            let table = d.constructors[range.start].table.into();
+            let records = &d.constructors[range];
+            let patterns: Vec<Pattern> = records.iter().map(|c| c.pattern).collect();
+            let clear = clash(&d, table).unwrap();
+            assert_eq!(clear, clash_by_the_rules(&d, table), "{d:?}");
+            let input = input(rng, &patterns);
+            for length in 0..=input.code.len() {
+                let number = asked(&d, table, input.context, &input.code[..length]);
+                answers[number] += 1;
+                assert!(clear != Clash::Clear || number != 4);
+            }
+        }
+    }
+    all_common(answers);
 }

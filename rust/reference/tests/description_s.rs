@@ -3,7 +3,7 @@
 use generate::bytes;
 use generate::example::description_s;
 use reference::{
-    ask, check, decode, decode_text, sweep, Description, End, Fault, Refusal, Row, Taken,
+    ask, check, decode, decode_text, requests, sweep, Description, End, Fault, Refusal, Row, Taken,
 };
 
 fn s() -> Description {
@@ -115,4 +115,17 @@ fn swept_code() {
     assert_eq!((used.next, used.end), (2, End::Used));
     let empty = sweep(&s(), 0, &[], 0);
     assert_eq!((empty.next, empty.end), (0, End::Used));
+}
+
+#[test]
+fn swept_values() {
+    let s = bytes(&description_s());
+    let code = [0x13, 0x30, 0x1f, 0x25];
+    let values = |code: &[u8], room: usize| {
+        let mut lent = vec![0; 4 * room];
+        requests::sweep(&s, 0, code, &mut lent).number_and_values()
+    };
+    assert_eq!(values(&code[..2], 10), (0, [0, 2, 2, 0]));
+    assert_eq!(values(&[0x25, 0x01, 0x1f], 1), (0, [1, 1, 2, 0]));
+    assert_eq!(values(&code, 10), (0, [2, 3, 3, 0]));
 }

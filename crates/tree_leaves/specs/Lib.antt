@@ -1,0 +1,2 @@
+-- The path to a leaf.
+pub mod Path

@@ -1,0 +1,2 @@
+-- Wrong leaves of decision trees, by a rule on patterns.
+pub mod Rule

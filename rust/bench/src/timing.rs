@@ -1,0 +1,40 @@
+//! Times of calls that take turns.
+
+use std::time::Instant;
+
+// Many short ones, so that neighbours meet about the same disturbances.
+const ROUNDS: usize = 401;
+
+/// Something to time; it is given the number of the call.
+pub type Job<'a> = &'a dyn Fn(usize);
+
+/// Microseconds a call of each job, round by round; jobs take turns.
+pub fn rounds<const N: usize>(calls: usize, jobs: [Job; N]) -> [Vec<f64>; N] {
+    let mut times = [const { Vec::new() }; N];
+    for round in 0..ROUNDS {
+        for (job, times) in jobs.iter().zip(&mut times) {
+            times.push(microseconds(round * calls, calls, job));
+        }
+    }
+    times
+}
+
+fn microseconds(first: usize, calls: usize, job: Job) -> f64 {
+    let started = Instant::now();
+    for call in first..first + calls {
+        job(call);
+    }
+    started.elapsed().as_secs_f64() * 1e6 / calls as f64
+}
+
+pub fn median(times: &[f64]) -> f64 {
+    let mut sorted = times.to_vec();
+    sorted.sort_by(f64::total_cmp);
+    sorted[sorted.len() / 2]
+}
+
+/// Prints both times and their ratio.
+pub fn print(name: &str, proved: f64, reference: f64) {
+    let ratio = proved / reference;
+    println!("{name}: proved {proved:.3} us, reference {reference:.3} us, ratio {ratio:.2}");
+}

@@ -1,0 +1,31 @@
+//! One answer of the library beside the reference's.
+
+use dookerand::Answer;
+
+/// The number and values that both gave. Stops with all that is needed to
+/// try again if they differ.
+pub fn agreed(
+    kind: &str,
+    request: impl FnOnce() -> String,
+    description: &[u8],
+    expected: &reference::Answer,
+    answer: Answer,
+) -> (u32, [u64; 4]) {
+    let (number, values) = expected.number_and_values();
+    if (answer.number, answer.values) != (number, values) {
+        println!("difference at \"{kind}\": {}", request());
+        println!("reference {number} {values:?}");
+        println!("library   {} {:?}", answer.number, answer.values);
+        println!("description, {} bytes:", description.len());
+        for line in description.chunks(32) {
+            println!("{}", hex(line));
+        }
+        std::process::exit(1);
+    }
+    (number, values)
+}
+
+pub fn hex(bytes: &[u8]) -> String {
+    let digits: Vec<String> = bytes.iter().map(|byte| format!("{byte:02x}")).collect();
+    digits.join(" ")
+}
