@@ -29,6 +29,12 @@ uint32_t dookerand_ask(const uint8_t *description, size_t description_len, uint3
  * 12: the table number. */
 uint32_t dookerand_clash(const uint8_t *description, size_t description_len, uint32_t table, uint64_t values[4]);
 
+/* The check of a decision tree proposed for one table.
+ * 0: 0 for accepted, or 1, the first wrong leaf's node, eight bytes as a little-endian number, context that prove it.
+ * 1: section, record. 12: the table number. 11: the first bad node, or 65,535. */
+uint32_t dookerand_tree(const uint8_t *description, size_t description_len, uint32_t table, const uint8_t *tree,
+                        size_t tree_len, uint64_t values[4]);
+
 #ifdef __cplusplus
 }
 #endif

@@ -1,5 +1,8 @@
 -- Every worked case that document 01 marks with a star holds, by computation.
+use Prim.Native.Nat.{ℕ, _<_}
 use mathlib.Core.Bool.{true}
+use native.Mathlib.Omega.{arith}
+use lib.Dec.{lit<, lit≤}
 use mathlib.Core.Path.{_≡_, refl}
 use Rattle.lists.specs.Below.{allBelow, anyBelow, firstBelow}
 use Rattle.lists.specs.Tab.{tabFrom}
@@ -16,9 +19,35 @@ use Rattle.choice.specs.Clashing.{crossing, third, clashing, partner, firstClas
 use Rattle.choosing.specs.Table.{patternFrom}
 use Rattle.asking.specs.Asking.{askIn, askOf}
 use Rattle.clashing.specs.Entry.{clashIn, clashAnswer}
-use Rattle.cases.specs.Cases.{same, allHold, asks, clashes, chosen, paired, bytes, rows, two, three, halves, chooses, pairs, cases, holds}
+use Rattle.format.specs.declared.Pattern.{Pattern}
+use Rattle.choice.specs.Sound.{Sound}
+use Rattle.trees.specs.Nodes.{kindAt, bitAt, placeAt}
+use Rattle.trees.specs.Form.{start, leafOk, nodeOk, walkOf, formOf}
+use Rattle.trees.specs.Judged.{Accepts, Rejects}
+use Rattle.trees.specs.declared.Verdict.the-variants as verdict
+use Rattle.tree_rule.specs.Rule.{refutes, showsWrong}
+use Rattle.tree_leaves.specs.Path.{pathFrom, pathOf}
+use Rattle.tree_leaves.proofs.Sides.{sound-start}
+use Rattle.tree_leaves.proofs.Judging.{accepts, rejects}
+use Rattle.cases.specs.Cases.{Starred, leafZero, leafNone, same, allHold, asks, clashes, chosen, paired, bytes, rows, two, three, halves, chooses, pairs, cases, holds}
 
-pub cases-hold : holds ≡ true
+-- what table 0 of S has: one pattern, of no masked bit
+module _ (at : ℕ → Pattern) (e : at 0 ≡ start) where
+  sound : (j : ℕ) → j < 1 → Sound (at j)
+  sound j h = let s : j ≡ 0 = omega arith in rw (s, e) sound-start
+
+  leaf-zero : Accepts 0 at 1 leafZero
+  unfolding formOf walkOf nodeOk leafOk kindAt bitAt placeAt showsWrong refutes pathOf pathFrom inside insideBits allBelow
+  leaf-zero =
+      accepts 0 at 1 leafZero sound (lit≤ tt) refl
+      (λ i l k j h. let s : i ≡ 0 = omega arith in let t : j ≡ 0 = omega arith in rw (s, t, e))
+
+  leaf-none : Rejects 0 at 1 leafNone 0 0 0
+  unfolding formOf walkOf nodeOk leafOk kindAt bitAt placeAt showsWrong refutes pathOf pathFrom overlap meetBits allBelow
+  leaf-none =
+      rw e at (rejects 0 at 1 leafNone sound (lit≤ tt) refl 0 0 (lit< tt) refl (lit< tt) refl (λ k h. absurd (omega arith)))
+
+pub cases-hold : Starred
 unfolding holds cases allHold same asks clashes chosen paired bytes rows two three halves chooses pairs
     allBelow anyBelow firstBelow tabFrom onesOf
     sectionAt layoutOf namesFrom constructorsFrom operandsFrom piecesFrom textFrom
@@ -27,5 +56,10 @@ unfolding holds cases allHold same asks clashes chosen paired bytes rows two thr
     checkOf faultOf partFault badField badName badConstructor badOperand badPiece badLetter
     tableFirst tableEnd contextAgrees matches agrees masksMissing cutOff insideBits inside meetBits overlap weight
     short matching innermost taken alone choose crossing third clashing partner firstClash clashOf
-    patternFrom askIn askOf clashIn clashAnswer
-cases-hold = refl
+    patternFrom askIn askOf clashIn clashAnswer formOf walkOf nodeOk leafOk kindAt bitAt placeAt
+cases-hold =
+    record {
+      computed = refl;
+      right = (verdict.Accepted, refl, leaf-zero _ refl);
+      wrong = (verdict.Rejected 0 0 0, refl, leaf-none _ refl);
+    }

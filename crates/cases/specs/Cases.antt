@@ -2,6 +2,7 @@
 use Prim.Native.Nat.{ℕ}
 use mathlib.Core.Bool.{Bool, true, false, _&&_}
 use mathlib.Core.List.{List, [], _∷_, _++_}
+use mathlib.Core.Path.{_≡_}
 use lib.Dec.{eqb}
 use lib.ListN.{length, getD}
 use Rattle.format.specs.Example.{S}
@@ -16,6 +17,8 @@ use Rattle.asking.specs.Asking as asking
 use Rattle.asking.specs.Asking.{askOf}
 use Rattle.clashing.specs.Entry as clashing
 use Rattle.clashing.specs.Entry.{clashAnswer}
+use Rattle.tree_check.specs.Entry.{Answers}
+use Rattle.tree_check.specs.declared.Answer.the-variants.{Accepted, Rejected}
 
 pub record Case : Type 0 where
   pub given : List ℕ
@@ -97,6 +100,18 @@ cases =
     record { given = chooses halves (0x11 ∷ []); said = 2 ∷ [] } ∷
     []
 
--- the one claim: every case holds
 unfoldable pub holds : Bool
 holds = allHold cases
+
+-- trees of one leaf: one that names constructor 0, and one that says none
+abbrev pub leafZero : List ℕ
+leafZero = 1 ∷ 0 ∷ 0 ∷ 0 ∷ 0 ∷ 0 ∷ []
+
+abbrev pub leafNone : List ℕ
+leafNone = 1 ∷ 0 ∷ 0 ∷ 0 ∷ 0xff ∷ 0xff ∷ []
+
+-- the one claim: every case holds, and "table 0, one leaf 0: accepted. One leaf none: node 0 wrong."
+pub record Starred : Type 0 where
+  pub computed : holds ≡ true
+  pub right : Answers S 0 leafZero Accepted
+  pub wrong : Answers S 0 leafNone (Rejected 0 0 0)

@@ -8,19 +8,18 @@ use borrow.Author.Tests.{eqb-true}
 use lib.Bits.{bitAnd}
 use lib.Dec.{eqb}
 use lib.ListN.{length, getD}
-use Rattle.lists.specs.Below.{allBelow}
 use Rattle.lists.proofs.Below.{all-at}
 use Rattle.lists.proofs.Bools.{and-left, and-right}
 use Rattle.format.specs.Numbers.{operandsEach, piecesEach}
 use Rattle.format.specs.Check.{Formed}
 use Rattle.format.specs.Description.{Description, description, noConstructor}
-use Rattle.format.specs.Rules.{constructorOk, shapeOk, tableOk, minimumOk, valueOk, rangeOk, operandFits, pieceFits}
+use Rattle.format.specs.Rules.{constructorOk, shapeOk, tableOk, minimumOk, valueOk, rangeOk}
 use Rattle.format.specs.Tables.{tableFirst, tableEnd}
 use Rattle.format.specs.declared.Constructor.{Constructor}
 use Rattle.format.specs.declared.Layout.{Layout}
 use Rattle.format.specs.declared.Pattern.{Pattern}
 use Rattle.format.proofs.Formation.{Obeyed, obeyed}
-use Rattle.format.proofs.Tables.{first-within, end-within}
+use Rattle.format.proofs.Tables.{shaped, first-within, end-within}
 use Rattle.choice.specs.Clashing.{clashOf}
 use Rattle.choice.specs.Sound.{Sound}
 use Rattle.choice.specs.declared.Choice.the-variants.{Short, Ambiguous}
@@ -39,14 +38,6 @@ valued d i c e =
     and-right (tableOk d i && minimumOk c) (valueOk (c .pattern))
     (and-left (tableOk d i && minimumOk c && valueOk (c .pattern)) operands
     (and-left (tableOk d i && minimumOk c && valueOk (c .pattern) && operands) (rangeOk piecesEach (length (d .pieces)) (c .pieces)) e))
-
-shaped : (d : Description) (i : ℕ) → constructorOk d i ≡ true → shapeOk d i (getD (d .constructors) i noConstructor) ≡ true
-unfolding constructorOk
-shaped d i e =
-    let c = getD (d .constructors) i noConstructor in
-    let operands = allBelow (c .operands .count) (operandFits d c) in
-    and-left (shapeOk d i c) operands
-    (and-left (shapeOk d i c && operands) (allBelow (c .pieces .count) (pieceFits d c)) e)
 
 module _ (b : List ℕ) (l : Layout) (bytes : (i : ℕ) → getD b i 0 < 256) (f : Formed b l) where
   -- every pattern of a well-formed description is sound

@@ -2,12 +2,14 @@
 use asking::Asked;
 use clashing::Judged;
 use format::Checked;
+use tree_check::Answer;
 ghost use mathlib.Core.Path.{_≡_};
 ghost use Rattle.format.specs.Check.{checkOf, numberOf, valuesOf};
 ghost use Rattle.asking.specs.Asking as asking;
 ghost use Rattle.asking.specs.Asking.{askOf};
 ghost use Rattle.clashing.specs.Entry as clashing;
 ghost use Rattle.clashing.specs.Entry.{clashAnswer};
+ghost use Rattle.tree_check.specs.Entry.{Reported};
 
 #[no_mangle]
 pub extern "C" fn dookerand_check(description: &[u8], values: &mut [u64; 4]) -> u32
@@ -89,6 +91,44 @@ pub extern "C" fn dookerand_clash(description: &[u8], table: u32, values: &mut [
         Judged::NoTable(t) => {
             *values = [t as u64, 0, 0, 0];
             12
+        }
+    }
+}
+
+#[no_mangle]
+pub extern "C" fn dookerand_tree(
+    description: &[u8],
+    table: u32,
+    tree: &[u8],
+    values: &mut [u64; 4],
+) -> u32
+    ensures { λ r. ⌜ Reported (now (description .entry)) table (now (tree .entry)) r (now (values .exit)) ⌝ }
+{
+    let answer = tree_check::tree_check(description, table, tree);
+    match answer {
+        Answer::Accepted => {
+            *values = [0, 0, 0, 0];
+            0
+        }
+        Answer::Rejected {
+            node,
+            word,
+            context,
+        } => {
+            *values = [1, node as u64, word, context as u64];
+            0
+        }
+        Answer::Malformed { section, record } => {
+            *values = [section as u64, record as u64, 0, 0];
+            1
+        }
+        Answer::NoTable(t) => {
+            *values = [t as u64, 0, 0, 0];
+            12
+        }
+        Answer::BadTree(node) => {
+            *values = [node as u64, 0, 0, 0];
+            11
         }
     }
 }

@@ -20,19 +20,20 @@ use Rattle.format.specs.declared.Laid.{Laid}
 use Rattle.format.specs.declared.Laid.the-variants.{At, Fault}
 
 -- what a count that was found says of its section
-pub record Placed (b : List ℕ) (least size : ℕ) (s : Section) : Type 0 where
+pub record Placed (b : List ℕ) (least most size : ℕ) (s : Section) : Type 0 where
   pub inside : s .start + size * s .count ≤ length b
   pub enough : least ≤ s .count
+  pub few : s .count ≤ most
 
 -- the section that a step went past, and what the step after it gave
-record Passed (b : List ℕ) (least size : ℕ) (more : Section → ℕ → Laid) (l : Layout) : Type 0 where
+record Passed (b : List ℕ) (least most size : ℕ) (more : Section → ℕ → Laid) (l : Layout) : Type 0 where
   section : Section
   at : ℕ
-  placed : Placed b least size section
+  placed : Placed b least most size section
   rest : more section at ≡ At l
 
 passed : (b : List ℕ) (k at least most size : ℕ) (more : Section → ℕ → Laid) (l : Layout)
-    → next k (sectionAt b at least most size) more ≡ At l → Passed b least size more l
+    → next k (sectionAt b at least most size) more ≡ At l → Passed b least most size more l
 unfolding sectionAt
 passed b k at least most size more l e = go _ refl e
   where
@@ -42,7 +43,7 @@ passed b k at least most size more l e = go _ refl e
     go : (t : Bool)
         → (leb (at + 2) (length b) && leb least n && leb n most && leb (at + 2 + n * size) (length b)) ≡ t
         → next k (cond t (Found (record { start = at + 2; count = n }) (record { at = at + 2 + n * size })) Missing) more ≡ At l
-        → Passed b least size more l
+        → Passed b least most size more l
     go true p q =
         let f = and4 (leb (at + 2) (length b)) (leb least n) (leb n most) (leb (at + 2 + n * size) (length b)) p in
         record {
@@ -52,6 +53,7 @@ passed b k at least most size more l e = go _ refl e
               record {
                 inside = omega (arith, mul-comm n size, leb-true (at + 2 + n * size) (length b) (f .3));
                 enough = leb-true least n (f .1);
+                few = leb-true n most (f .2);
               };
           rest = q;
         }
@@ -62,8 +64,8 @@ ended true l m e = cc
 ended false l m e = let z : _≡_ {A = ℕ} 0 1 = cc in absurd (omega arith)
 
 -- a section whose records are one byte each
-single : (b : List ℕ) (s : Section) → Placed b 0 1 s → s .start + s .count ≤ length b
-single b s p = omega arith
+single : (b : List ℕ) (most : ℕ) (s : Section) → Placed b 0 most 1 s → s .start + s .count ≤ length b
+single b most s p = omega arith
 
 -- the places that the counts give
 pub laid-room : (b : List ℕ) (l : Layout) → layoutOf b ≡ At l → Room b l
@@ -82,6 +84,7 @@ laid-room b l e =
       constructors = constructors .placed .inside;
       operands = operands .placed .inside;
       pieces = pieces .placed .inside;
-      text = single b _ (text .placed);
+      text = single b _ _ (text .placed);
       some = constructors .placed .enough;
+      few = constructors .placed .few;
     })

@@ -20,7 +20,7 @@ use Rattle.format.specs.declared.Constructor.{Constructor}
 use Rattle.format.proofs.Formation.{Obeyed}
 
 -- the first rule of a constructor that obeys all of them
-shaped : (d : Description) (i : ℕ) → constructorOk d i ≡ true → shapeOk d i (getD (d .constructors) i noConstructor) ≡ true
+pub shaped : (d : Description) (i : ℕ) → constructorOk d i ≡ true → shapeOk d i (getD (d .constructors) i noConstructor) ≡ true
 unfolding constructorOk
 shaped d i e =
     let c = getD (d .constructors) i noConstructor in

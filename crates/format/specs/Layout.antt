@@ -61,7 +61,7 @@ namesFrom b fields at = next 2 (sectionAt b at 0 mostNames nameBytes) (construct
 unfoldable pub layoutOf : List ℕ → Laid
 layoutOf b = next 1 (sectionAt b 0 0 mostFields fieldBytes) (namesFrom b)
 
--- each section lies inside the bytes, and there is a constructor: what layoutOf shows of the places that it gives
+-- each section lies inside the bytes, there is a constructor and not too many: what layoutOf shows of the places that it gives
 pub record Room (b : List ℕ) (l : Layout) : Type 0 where
   pub fields : l .fields .start + 8 * l .fields .count ≤ length b
   pub names : l .names .start + 3 * l .names .count ≤ length b
@@ -70,3 +70,4 @@ pub record Room (b : List ℕ) (l : Layout) : Type 0 where
   pub pieces : l .pieces .start + 4 * l .pieces .count ≤ length b
   pub text : l .text .start + l .text .count ≤ length b
   pub some : 1 ≤ l .constructors .count
+  pub few : l .constructors .count ≤ mostConstructors

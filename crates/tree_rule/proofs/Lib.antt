@@ -2,3 +2,4 @@
 pub mod Filled
 pub mod Bytes
 pub mod Rule
+mod Meets

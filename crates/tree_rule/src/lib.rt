@@ -4,15 +4,15 @@ ghost use mathlib.Core.Path.{_≡_};
 ghost use Rattle.tree_rule.specs.Rule.{refutes, filled};
 
 // Whether a pattern q of the table shows that a leaf at the end of path p is wrong: own where the leaf names q, none where it
-// says none, named the pattern of what it names.
+// says none, named the pattern of what it names. Most patterns are apart from the path, so that is tested first.
 pub fn shows_wrong(own: bool, none: bool, p: Pattern, named: Pattern, q: Pattern) -> bool
     ensures { λ r. ⌜ r ≡ refutes own none p named q ⌝ }
 {
+    if !patterns::overlaps(p, q) {
+        return own;
+    }
     if own {
         return !patterns::lies_inside(p, q);
-    }
-    if !patterns::overlaps(p, q) {
-        return false;
     }
     if none {
         return true;

@@ -2,6 +2,7 @@
 // and its values.
 use format::Checked;
 use libc::STDOUT_FILENO;
+use tree_check::Answer;
 ghost use mathlib.Core.Path.{_≡_};
 ghost use lib.ListN.{length};
 
@@ -225,6 +226,88 @@ const S: [u8; 216] = [
     116,
 ];
 
+// A tree for table 1 of S, by bits 7 down to 0, 19 nodes.
+const TREE: [u8; 78] = [
+    19,
+    0,
+    1,
+    7,
+    18,
+    0,
+    1,
+    6,
+    17,
+    0,
+    1,
+    5,
+    14,
+    0,
+    1,
+    4,
+    5,
+    0,
+    0,
+    0,
+    255,
+    255,
+    1,
+    3,
+    7,
+    0,
+    0,
+    0,
+    1,
+    0,
+    1,
+    2,
+    9,
+    0,
+    0,
+    0,
+    1,
+    0,
+    1,
+    1,
+    11,
+    0,
+    0,
+    0,
+    1,
+    0,
+    1,
+    0,
+    13,
+    0,
+    0,
+    0,
+    1,
+    0,
+    0,
+    0,
+    3,
+    0,
+    1,
+    4,
+    16,
+    0,
+    0,
+    0,
+    2,
+    0,
+    0,
+    0,
+    255,
+    255,
+    0,
+    0,
+    255,
+    255,
+    0,
+    0,
+    255,
+    255,
+];
+
 fn line(text: &[u8]) {
     io::write_all(STDOUT_FILENO, text);
 }
@@ -243,6 +326,38 @@ fn judge(text: &[u8], description: &[u8]) {
             number(1);
             number(section);
             number(record);
+        }
+    }
+    line(b"\n");
+}
+
+fn examine(text: &[u8], tree: &[u8]) {
+    line(text);
+    let s = S;
+    let answer = tree_check::tree_check(&s, 1, tree);
+    match answer {
+        Answer::Accepted => {
+            number(0);
+            number(0);
+        }
+        Answer::Rejected { node, word, .. } => {
+            number(0);
+            number(1);
+            number(node);
+            number((word & 255) as usize);
+        }
+        Answer::Malformed { section, record } => {
+            number(1);
+            number(section);
+            number(record);
+        }
+        Answer::NoTable(t) => {
+            number(12);
+            number(t as usize);
+        }
+        Answer::BadTree(node) => {
+            number(11);
+            number(node);
         }
     }
     line(b"\n");
@@ -283,7 +398,7 @@ fn longest() -> [u8; 54284]
     d
 }
 
-fn main() {
+fn descriptions() {
     let s = S;
     judge(b"S:", &s);
     judge(b"S cut to 215 bytes:", &s[..215]);
@@ -292,4 +407,18 @@ fn main() {
     let d = longest();
     judge(b"the longest:", &d);
     judge(b"the longest, cut by one:", &d[..54283]);
+}
+
+// Of a wrong leaf: the node, and the first byte of the example.
+fn trees() {
+    let tree = TREE;
+    examine(b"table 1 by bits 7 down to 0:", &tree);
+    let mut changed = TREE;
+    changed[56] = 1;
+    examine(b"its leaf for 1F changed to 1:", &changed);
+}
+
+fn main() {
+    descriptions();
+    trees();
 }

@@ -9,7 +9,7 @@ use reference::Description;
 use crate::timing::{median, print, rounds, Job};
 use crate::{proved_check, reference_check};
 
-const TABLE: u32 = 0;
+pub const TABLE: u32 = 0;
 const CONTEXT: u32 = 1;
 
 pub fn all() {
@@ -34,15 +34,15 @@ pub fn one_check() -> Answer {
 }
 
 /// An instruction set with code for it.
-struct Set {
-    description: Description,
-    bytes: Vec<u8>,
+pub struct Set {
+    pub description: Description,
+    pub bytes: Vec<u8>,
     code: Vec<u8>,
     starts: Vec<usize>,
 }
 
 impl Set {
-    fn new(constructors: usize) -> Set {
+    pub fn new(constructors: usize) -> Set {
         let description = instruction_set(constructors);
         let (code, starts) = instruction_starts(&mut Rng::new(1), &description, 1000);
         Set {
@@ -95,7 +95,7 @@ impl Set {
     /// Prints the times of a request on a description's bytes, of the check
     /// that it begins with, and of what is left; last beside the reference
     /// on the parsed description, which the cache then holds.
-    fn compare(&self, request: &str, calls: usize, jobs: [Job; 3]) {
+    pub fn compare(&self, request: &str, calls: usize, jobs: [Job; 3]) {
         let [proved, whole, proper] = jobs;
         let check = |_| proved_check(&self.bytes);
         let other_check = |_| reference_check(&self.bytes);

@@ -1,12 +1,14 @@
 //! Times the proved library beside the reference.
 //!
 //! `bench one` makes exactly one proved check of the longest description,
-//! for counting instructions. With asking there are `bench one-ask`, one
-//! question to a table of 512 constructors, `bench one-clash`, its clash
-//! check, and `bench one-check`, the check that both of them begin with.
+//! for counting instructions; `bench one-ask` one question to a table of 512
+//! constructors, `bench one-clash` its clash check, `bench one-tree` the check
+//! of a tree of 4,095 nodes for it, and `bench one-check` the check of the
+//! description that those three begin with.
 
 mod choosing;
 mod timing;
+mod trees;
 
 use std::hint::black_box;
 
@@ -23,8 +25,9 @@ fn main() {
         Some("one-ask") => print_answer(choosing::one_ask()),
         Some("one-clash") => print_answer(choosing::one_clash()),
         Some("one-check") => print_answer(choosing::one_check()),
+        Some("one-tree") => print_answer(trees::one_tree()),
         Some(_) => {
-            eprintln!("usage: bench [one | one-ask | one-clash | one-check]");
+            eprintln!("usage: bench [one | one-ask | one-clash | one-check | one-tree]");
             std::process::exit(2);
         }
     }
@@ -34,6 +37,7 @@ fn all() {
     check("longest", &bytes(&longest()), 10);
     check("S", &bytes(&description_s()), 5_000);
     choosing::all();
+    trees::all();
 }
 
 fn print_answer(answer: Answer) {

@@ -5,6 +5,8 @@ mod agreed;
 mod check;
 mod choosing;
 mod tally;
+mod trees;
+mod wrong_leaf;
 
 use std::time::Instant;
 
@@ -24,6 +26,7 @@ fn main() {
     println!("seed {seed}");
     timed("check", || check::compare(&mut Rng::new(seed)));
     timed("ask and clash", || choosing::compare(&mut Rng::new(seed)));
+    timed("tree check", || trees::compare(&mut Rng::new(seed)));
 }
 
 fn timed(name: &str, compare: impl FnOnce()) {

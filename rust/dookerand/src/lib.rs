@@ -1,8 +1,10 @@
 //! The proved decoder, made safe to call.
 
 mod choosing;
+mod trees;
 
 pub use choosing::{ask, clash};
+pub use trees::tree;
 
 mod c {
     extern "C" {

@@ -15,6 +15,8 @@ mod rng;
 mod rules;
 mod tables;
 mod tree;
+mod tree_faults;
+mod tree_shapes;
 mod well_formed;
 mod write;
 
@@ -28,6 +30,12 @@ pub use mutate::{change_bytes, change_counts, change_records, insert_or_remove, 
 pub use rng::Rng;
 pub use rules::{rules, Rule};
 pub use tables::{meeting_tables, table_ranges};
-pub use tree::tree;
+pub use tree::{small_tree, tree, tree_bytes, tree_nodes, Node, NODE_LIMIT, NONE};
+pub use tree_faults::{
+    any_node, repeated, tree_count_faults, Records, TreeRule, TREE_RULES, WHOLE_TREE,
+};
+pub use tree_shapes::{
+    all_bits, any_place, deep_tree, grow, largest_tree, prune, random_tree, replace, Shape,
+};
 pub use well_formed::{well_formed, Size};
 pub use write::{bytes, counts, section_starts, LIMITS, RECORD_SIZES};

@@ -1,5 +1,7 @@
-use borrow.Author.Tests.{not-true, not-false}
+use Rattle.tree_rule.proofs.Meets.{apart}
 use Rattle.tree_rule.specs.Rule.{refutes}
+use mathlib.Core.Path.{sym, _∙_}
+use borrow.Author.Tests.{not-true, not-false}
 use borrow.Author.Needs.{needs}
 use Rattle.tree_rule.proofs.shows_wrong.Statement.{statement}
 use Rattle.tree_rule.proofs.shows_wrong.Tie as tie
@@ -8,34 +10,27 @@ use Rattle.tree_rule.proofs.shows_wrong.Lts as lts
 use Rattle.patterns.proofs.lies_inside.Reads as lies-inside-reads
 use Rattle.patterns.proofs.overlaps.Reads as overlaps-reads
 
--- src/lib.rt:12:17
-lies-inside-requires : tie.Need-lies-inside-requires
-lies-inside-requires c κs = search needs
+-- src/lib.rt:11:9
+overlaps-requires : tie.Need-overlaps-requires
+overlaps-requires c κs = search needs
 
 -- src/lib.rt:12:9
 returns : tie.Need-returns
-unfolding refutes
-returns c = rw (c .before .if1 .taken, c .lies-inside .ensures)
+returns c = apart _ _ _ _ _ (sym (c .before .overlaps .ensures) ∙ not-true (c .before .overlaps .result) (c .if1 .taken))
 
--- src/lib.rt:14:9
-overlaps-requires : tie.Need-overlaps-requires
-overlaps-requires c κs = search needs
+-- src/lib.rt:15:17
+lies-inside-requires : tie.Need-lies-inside-requires
+lies-inside-requires c κs = search needs
 
 -- src/lib.rt:15:9
 returns-2 : tie.Need-returns-2
 unfolding refutes
-returns-2 c = rw (c .before .before .if1 .left, ← c .before .overlaps .ensures, not-true (c .before .overlaps .result) (c .if2 .taken))
+returns-2 c = rw (c .before .if2 .taken, c .lies-inside .ensures)
 
 -- src/lib.rt:18:9
 returns-3 : tie.Need-returns-3
 unfolding refutes
-returns-3 c =
-    rw (
-      c .before .before .before .if1 .left,
-      ← c .before .before .overlaps .ensures,
-      not-false (c .before .before .overlaps .result) (c .before .if2 .left),
-      c .if3 .taken,
-    )
+returns-3 c = rw (c .before .if2 .left, ← c .before .before .before .overlaps .ensures, not-false (c .before .before .before .overlaps .result) (c .before .before .if1 .left), c .if3 .taken)
 
 -- src/lib.rt:20:7
 lies-inside-requires-2 : tie.Need-lies-inside-requires-2
@@ -48,23 +43,15 @@ lies-inside-requires-3 c κs = search needs
 -- src/lib.rt:8:1
 returns-4 : tie.Need-returns-4
 unfolding refutes
-returns-4 c =
-    rw (
-      c .before .before .before .before .before .if1 .left,
-      ← c .before .before .before .before .overlaps .ensures,
-      not-false (c .before .before .before .before .overlaps .result) (c .before .before .before .if2 .left),
-      c .before .before .if3 .left,
-      c .before .lies-inside2 .ensures,
-      c .lies-inside3 .ensures,
-    )
+returns-4 c = rw (c .before .before .before .if2 .left, ← c .before .before .before .before .before .overlaps .ensures, not-false (c .before .before .before .before .before .overlaps .result) (c .before .before .before .before .if1 .left), c .before .before .if3 .left, c .before .lies-inside2 .ensures, c .lies-inside3 .ensures)
 
 pub shows-wrong-spec : {M : Type 1} → statement M
 shows-wrong-spec =
     tie.close
     (tie.spec
-    lies-inside-requires
-    returns
     overlaps-requires
+    returns
+    lies-inside-requires
     returns-2
     returns-3
     lies-inside-requires-2

@@ -2,10 +2,10 @@ use lib.Seq.{length-take-le}
 use native.Mathlib.Omega.{arith}
 use mathlib.Core.Path.{sym}
 use borrow.Author.Needs.{needs}
-use Rattle.worked.proofs.main.Statement.{statement}
-use Rattle.worked.proofs.main.Tie as tie
-use Rattle.worked.proofs.main.Reads as reads
-use Rattle.worked.proofs.main.Lts as lts
+use Rattle.worked.proofs.descriptions.Statement.{statement}
+use Rattle.worked.proofs.descriptions.Tie as tie
+use Rattle.worked.proofs.descriptions.Reads as reads
+use Rattle.worked.proofs.descriptions.Lts as lts
 use Rattle.worked.proofs.judge.Reads as judge-reads
 use Rattle.worked.proofs.longer.Reads as longer-reads
 use Rattle.worked.proofs.longest.Reads as longest-reads
@@ -106,8 +106,8 @@ judge-requires-6 c κs = search needs
 returns : tie.Need-returns
 returns c = search needs
 
-pub main-spec : {M : Type 1} → statement M
-main-spec =
+pub descriptions-spec : {M : Type 1} → statement M
+descriptions-spec =
     tie.close
     (tie.spec
     slice-aggregate-judge
