@@ -4,7 +4,7 @@ use mathlib.Core.Bool.{Bool, true, false, cond, not, _&&_, _||_, false≢true}
 use mathlib.Core.Path.{_≡_, refl, sym, ap, _∙_}
 use native.Mathlib.Decide.{ℕ-discrete}
 use native.Mathlib.Omega.{arith}
-use borrow.Author.Tests.{eq-eqb, ne-eqb}
+use borrow.Author.Tests.{eq-eqb, ne-eqb, not-false}
 use lib.Dec.{eqb}
 use Rattle.lists.specs.Below.{allBelow, anyBelow}
 use Rattle.lists.proofs.Below.{any-none, any-more, any-at, all-at, all-of}
@@ -20,10 +20,6 @@ use Rattle.choosing.specs.declared.Best.{Best}
 pub neither : (a b : Bool) → (a || b) ≡ false → (a ≡ false) × (b ≡ false)
 neither true b e = absurd (false≢true (sym e))
 neither false b e = (refl, e)
-
-not-no : (a : Bool) → not a ≡ false → a ≡ true
-not-no true e = refl
-not-no false e = sym e
 
 -- what is not so is false
 deny : (a : Bool) → (a ≡ true → ⊥) → a ≡ false
@@ -127,7 +123,7 @@ module _ (at : ℕ → Pattern) (hit : ℕ → Bool) (n : ℕ) where
               record {
                 within = omega (arith, s .within);
                 hits = s .hits;
-                above = λ i h x y. above s (not-no (inside (at (b .at)) (at j)) (r .1)) i h x y (ℕ-discrete i j);
+                above = λ i h x y. above s (not-false (inside (at (b .at)) (at j)) (r .1)) i h x y (ℕ-discrete i j);
               };
           held = λ t h m. (refl, go t h m (ℕ-discrete t j));
         }

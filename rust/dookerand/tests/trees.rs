@@ -3,11 +3,8 @@
 use std::path::Path;
 
 use dookerand::{tree, Answer};
-
-const NONE: u16 = 65_535;
-
-/// Kind, bit and place.
-type Node = (u8, u8, u16);
+use generate::example::{tree_of, TABLE_1};
+use generate::NONE;
 
 fn s() -> Vec<u8> {
     let manifest = Path::new(env!("CARGO_MANIFEST_DIR"));
@@ -22,41 +19,9 @@ fn bad(node: u64) -> Answer {
     answer(11, [node, 0, 0, 0])
 }
 
-fn bytes(nodes: &[Node]) -> Vec<u8> {
-    let mut tree = (nodes.len() as u16).to_le_bytes().to_vec();
-    for &(kind, bit, place) in nodes {
-        tree.extend([kind, bit]);
-        tree.extend(place.to_le_bytes());
-    }
-    tree
+fn checked(table: u32, nodes: &[(u8, u8, u16)]) -> Answer {
+    tree(&s(), table, &tree_of(nodes))
 }
-
-fn checked(table: u32, nodes: &[Node]) -> Answer {
-    tree(&s(), table, &bytes(nodes))
-}
-
-/// Table 1 by bits 7 down to 0.
-const TABLE_1: [Node; 19] = [
-    (1, 7, 18),
-    (1, 6, 17),
-    (1, 5, 14),
-    (1, 4, 5),
-    (0, 0, NONE),
-    (1, 3, 7),
-    (0, 0, 1),
-    (1, 2, 9),
-    (0, 0, 1),
-    (1, 1, 11),
-    (0, 0, 1),
-    (1, 0, 13),
-    (0, 0, 1),
-    (0, 0, 3),
-    (1, 4, 16),
-    (0, 0, 2),
-    (0, 0, NONE),
-    (0, 0, NONE),
-    (0, 0, NONE),
-];
 
 #[test]
 fn accepted() {
@@ -93,7 +58,7 @@ fn the_first_wrong_leaf() {
 
 #[test]
 fn counts_and_lengths() {
-    let leaf = bytes(&[(0, 0, 0)]);
+    let leaf = tree_of(&[(0, 0, 0)]);
     for wrong in [&[][..], &[1], &[0, 0], &leaf[..5], &[0, 0, 0, 0, 0, 0]] {
         assert_eq!(tree(&s(), 0, wrong), bad(65_535));
     }

@@ -1,6 +1,9 @@
-//! Fixed descriptions: S of the rules, and one that uses every feature.
+//! Fixed descriptions: S of the rules, with a tree of its table 1, and one that
+//! uses every feature.
 
 use reference::{Constructor, Description, Field, Name, Operand, Pattern, Piece};
+
+use crate::tree::{tree_bytes, Node, NONE};
 
 pub fn field(source: u8, width: u8, order: u8, low: u8, high: u8, look: u8) -> Field {
     Field {
@@ -100,6 +103,36 @@ pub fn description_s() -> Description {
         text: b"inc radd r, halt".to_vec(),
     }
 }
+
+/// The bytes of a tree, from kind, bit and place of each node.
+pub fn tree_of(nodes: &[(u8, u8, u16)]) -> Vec<u8> {
+    let node = |&(kind, bit, place): &(u8, u8, u16)| Node { kind, bit, place };
+    tree_bytes(&nodes.iter().map(node).collect::<Vec<_>>())
+}
+
+/// A tree of table 1 of description S, by bits 7 down to 0: kind, bit and
+/// place of each node.
+pub const TABLE_1: [(u8, u8, u16); 19] = [
+    (1, 7, 18),
+    (1, 6, 17),
+    (1, 5, 14),
+    (1, 4, 5),
+    (0, 0, NONE),
+    (1, 3, 7),
+    (0, 0, 1),
+    (1, 2, 9),
+    (0, 0, 1),
+    (1, 1, 11),
+    (0, 0, 1),
+    (1, 0, 13),
+    (0, 0, 1),
+    (0, 0, 3),
+    (1, 4, 16),
+    (0, 0, 2),
+    (0, 0, NONE),
+    (0, 0, NONE),
+    (0, 0, NONE),
+];
 
 /// A small description with names, holes, context fields and bits, anchors,
 /// shared records, unused records and empty ranges at a section's end.

@@ -1,21 +1,10 @@
 //! The tree check.
 
-use generate::example::description_s;
-use generate::{context, tree, well_formed, Rng, Size};
+use generate::example::{description_s, tree_of, TABLE_1};
+use generate::{context, tree, well_formed, Rng, Size, NONE};
 use reference::{ask, clash, tree_check, Clash, Description, Refusal, Verdict};
 
-const NONE: u16 = 65_535;
-
 type Node = (u8, u8, u16);
-
-fn bytes(nodes: &[Node]) -> Vec<u8> {
-    let mut tree = (nodes.len() as u16).to_le_bytes().to_vec();
-    for &(kind, bit, place) in nodes {
-        tree.extend([kind, bit]);
-        tree.extend(place.to_le_bytes());
-    }
-    tree
-}
 
 fn nodes(tree: &[u8]) -> Vec<Node> {
     let node = |n: &[u8]| (n[0], n[1], u16::from_le_bytes([n[2], n[3]]));
@@ -23,36 +12,11 @@ fn nodes(tree: &[u8]) -> Vec<Node> {
 }
 
 fn checked(table: u32, nodes: &[Node]) -> Result<Verdict, Refusal> {
-    tree_check(&description_s(), table, &bytes(nodes))
+    tree_check(&description_s(), table, &tree_of(nodes))
 }
 
 fn bad(node: u16) -> Result<Verdict, Refusal> {
     Err(Refusal::BadTree { node })
-}
-
-/// Table 1 of S by bits 7 down to 0.
-fn table_1() -> Vec<Node> {
-    vec![
-        (1, 7, 18),
-        (1, 6, 17),
-        (1, 5, 14),
-        (1, 4, 5),
-        (0, 0, NONE),
-        (1, 3, 7),
-        (0, 0, 1),
-        (1, 2, 9),
-        (0, 0, 1),
-        (1, 1, 11),
-        (0, 0, 1),
-        (1, 0, 13),
-        (0, 0, 1),
-        (0, 0, 3),
-        (1, 4, 16),
-        (0, 0, 2),
-        (0, 0, NONE),
-        (0, 0, NONE),
-        (0, 0, NONE),
-    ]
 }
 
 #[test]
@@ -64,7 +28,7 @@ fn table_0_of_s() {
 
 #[test]
 fn table_1_of_s() {
-    let mut nodes = table_1();
+    let mut nodes = TABLE_1;
     assert_eq!(nodes.len(), 19);
     assert_eq!(checked(1, &nodes), Ok(Verdict::Accepted));
     nodes[13].2 = 1;
@@ -77,7 +41,7 @@ fn table_1_of_s() {
 #[test]
 fn counts_and_lengths() {
     let d = description_s();
-    let tree = bytes(&[(0, 0, 0)]);
+    let tree = tree_of(&[(0, 0, 0)]);
     for wrong in [&[][..], &[1], &[0, 0], &tree[..5], &[0, 0, 0, 0, 0, 0]] {
         assert_eq!(tree_check(&d, 0, wrong), bad(NONE));
     }
@@ -151,7 +115,7 @@ fn try_inputs(rng: &mut Rng, d: &Description, table: u32, nodes: &[Node], right_
 
 /// What the check says holds for the tree; true if it accepts.
 fn judge(rng: &mut Rng, d: &Description, table: u32, nodes: &[Node]) -> bool {
-    match tree_check(d, table, &bytes(nodes)).unwrap() {
+    match tree_check(d, table, &tree_of(nodes)).unwrap() {
         Verdict::Accepted => {
             try_inputs(rng, d, table, nodes, nodes.len());
             true
