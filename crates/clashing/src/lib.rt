@@ -41,7 +41,7 @@ fn has_third(desc: &[u8], layout: Layout, table: Table, i: usize, j: usize, p: P
     false
 }
 
-// The same for a pair that overlaps.
+// Whether records i and j, with overlapping patterns a and b, clash.
 fn crosses(
     desc: &[u8],
     layout: Layout,
