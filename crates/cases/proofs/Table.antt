@@ -29,7 +29,14 @@ use Rattle.tree_rule.specs.Rule.{refutes, showsWrong}
 use Rattle.tree_leaves.specs.Path.{pathFrom, pathOf}
 use Rattle.tree_leaves.proofs.Sides.{sound-start}
 use Rattle.tree_leaves.proofs.Judging.{accepts, rejects}
-use Rattle.cases.specs.Cases.{Starred, leafZero, leafNone, same, allHold, asks, clashes, chosen, paired, bytes, rows, two, three, halves, chooses, pairs, cases, holds}
+use Rattle.fields.specs.Value.{valueOf, ofBits, sourceBit, tokenByte}
+use Rattle.fields.specs.Look.{lookOf, numberOf, signedOf}
+use Rattle.instruction.specs.Tree.{rowsOf, rowsOfAll, numbersOf}
+use Rattle.instruction.specs.Walk as walk
+use Rattle.instruction.specs.Walk.{shownAs, fieldFrom, operandFrom, closed, constructorFrom, tableFrom, walkFrom, instructionOf}
+use Rattle.decoding.specs.Decoding.{decodeOf, rowsAfter}
+use Rattle.cases.specs.Cases as cases-of
+use Rattle.cases.specs.Cases.{Starred, leafZero, leafNone, same, allHold, asks, clashes, chosen, paired, bytes, rows, two, three, halves, chooses, pairs, decodes, cases, holds}
 
 -- what table 0 of S has: one pattern, of no masked bit
 module _ (at : ℕ → Pattern) (e : at 0 ≡ start) where
@@ -57,6 +64,8 @@ unfolding holds cases allHold same asks clashes chosen paired bytes rows two thr
     tableFirst tableEnd contextAgrees matches agrees masksMissing cutOff insideBits inside meetBits overlap weight
     short matching innermost taken alone choose crossing third clashing partner firstClash clashOf
     patternFrom askIn askOf clashIn clashAnswer formOf walkOf nodeOk leafOk kindAt bitAt placeAt
+    cases-of.signedOf decodes valueOf ofBits sourceBit tokenByte lookOf numberOf signedOf rowsOf rowsOfAll numbersOf shownAs fieldFrom operandFrom
+    walk.operandsFrom closed constructorFrom tableFrom walkFrom instructionOf decodeOf rowsAfter
 cases-hold =
     record {
       computed = refl;

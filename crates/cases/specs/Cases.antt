@@ -1,10 +1,11 @@
 -- The cases of document 01 that are marked with a star, as one table: what the definitions give, and what document 01 says.
-use Prim.Native.Nat.{ℕ}
+use Prim.Native.Nat.{ℕ, _*_}
 use mathlib.Core.Bool.{Bool, true, false, _&&_}
 use mathlib.Core.List.{List, [], _∷_, _++_}
 use mathlib.Core.Path.{_≡_}
 use lib.Dec.{eqb}
-use lib.ListN.{length, getD}
+use lib.IntN.{ℤ, pos, negsuc, natAbs}
+use lib.ListN.{length, getD, replicate}
 use Rattle.format.specs.Example.{S}
 use Rattle.format.specs.declared.Pattern.{Pattern}
 use Rattle.choice.specs.Choosing.{choose}
@@ -17,6 +18,8 @@ use Rattle.asking.specs.Asking as asking
 use Rattle.asking.specs.Asking.{askOf}
 use Rattle.clashing.specs.Entry as clashing
 use Rattle.clashing.specs.Entry.{clashAnswer}
+use Rattle.decoding.specs.Decoding as decoding
+use Rattle.decoding.specs.Decoding.{decodeOf, rowsAfter}
 use Rattle.tree_check.specs.Entry.{Answers}
 use Rattle.tree_check.specs.declared.Answer.the-variants.{Accepted, Rejected}
 
@@ -74,6 +77,18 @@ chooses ps s = chosen (choose (rows ps) (length ps) s 0)
 unfoldable pub pairs : List Pattern → List ℕ
 pairs ps = paired (clashOf (rows ps) (length ps))
 
+-- a row's numbers, one below zero as 1 and its magnitude, any other as 0 and itself
+unfoldable pub signedOf : List ℤ → List ℕ
+signedOf [] = []
+signedOf (pos n ∷ zs) = 0 ∷ n ∷ signedOf zs
+signedOf (negsuc n ∷ zs) = 1 ∷ natAbs (negsuc n) ∷ signedOf zs
+
+-- decoding S to so many lent rows, 0 before: the answer, and the lent numbers afterwards
+unfoldable pub decodes : ℕ → List ℕ → List ℕ
+decodes n s =
+    (decoding.numberOf (decodeOf S 0 s (4 * n)) ∷ decoding.valuesOf (decodeOf S 0 s (4 * n)))
+    ++ signedOf (rowsAfter S 0 s (replicate (4 * n) (pos 0)))
+
 unfoldable pub cases : List Case
 cases =
     -- "1F: .. weight 8"; 13, 25 and 30 choose constructors 1 and 2 and none
@@ -98,6 +113,33 @@ cases =
     record { given = pairs halves; said = 1 ∷ 0 ∷ 1 ∷ [] } ∷
     record { given = chooses halves (0x11 ∷ 0x40 ∷ []); said = 0 ∷ 2 ∷ [] } ∷
     record { given = chooses halves (0x11 ∷ []); said = 2 ∷ [] } ∷
+    -- "13: rows (0,1,0,1) (1,0,0,3)"
+    record {
+      given = decodes 2 (0x13 ∷ []);
+      said =
+          0 ∷ 2 ∷ 0 ∷ 0 ∷ 0 ∷
+          0 ∷ 0 ∷ 0 ∷ 1 ∷ 0 ∷ 0 ∷ 0 ∷ 1 ∷
+          0 ∷ 1 ∷ 0 ∷ 0 ∷ 0 ∷ 0 ∷ 0 ∷ 3 ∷ [];
+    } ∷
+    -- "1F: (0,3,0,1)"
+    record { given = decodes 1 (0x1f ∷ []); said = 0 ∷ 1 ∷ 0 ∷ 0 ∷ 0 ∷ 0 ∷ 0 ∷ 0 ∷ 3 ∷ 0 ∷ 0 ∷ 0 ∷ 1 ∷ [] } ∷
+    -- "25 FE: (0,2,0,2) (1,0,0,5) (0,0,1,1) (1,1,1,-2)", with a row more lent, which stays as it was
+    record {
+      given = decodes 5 (0x25 ∷ 0xfe ∷ []);
+      said =
+          0 ∷ 4 ∷ 0 ∷ 0 ∷ 0 ∷
+          0 ∷ 0 ∷ 0 ∷ 2 ∷ 0 ∷ 0 ∷ 0 ∷ 2 ∷
+          0 ∷ 1 ∷ 0 ∷ 0 ∷ 0 ∷ 0 ∷ 0 ∷ 5 ∷
+          0 ∷ 0 ∷ 0 ∷ 0 ∷ 0 ∷ 1 ∷ 0 ∷ 1 ∷
+          0 ∷ 1 ∷ 0 ∷ 1 ∷ 0 ∷ 1 ∷ 1 ∷ 2 ∷
+          0 ∷ 0 ∷ 0 ∷ 0 ∷ 0 ∷ 0 ∷ 0 ∷ 0 ∷ [];
+    } ∷
+    -- the same with a row less lent
+    record { given = decodes 1 (0x25 ∷ 0xfe ∷ []); said = 9 ∷ 0 ∷ 0 ∷ 0 ∷ 0 ∷ 0 ∷ 0 ∷ 0 ∷ 0 ∷ 0 ∷ 0 ∷ 0 ∷ 0 ∷ [] } ∷
+    -- "25: 2, place 1. Empty: 2, place 0. 30: 3, place 0, table 1."
+    record { given = decodes 1 (0x25 ∷ []); said = 2 ∷ 1 ∷ 0 ∷ 0 ∷ 0 ∷ 0 ∷ 0 ∷ 0 ∷ 0 ∷ 0 ∷ 0 ∷ 0 ∷ 0 ∷ [] } ∷
+    record { given = decodes 0 []; said = 2 ∷ 0 ∷ 0 ∷ 0 ∷ 0 ∷ [] } ∷
+    record { given = decodes 0 (0x30 ∷ []); said = 3 ∷ 0 ∷ 1 ∷ 0 ∷ 0 ∷ [] } ∷
     []
 
 unfoldable pub holds : Bool

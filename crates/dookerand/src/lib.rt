@@ -1,7 +1,9 @@
 // The C face. Each function returns the answer's number in document 01's table and sets all four values.
 use asking::Asked;
 use clashing::Judged;
+use decoding::Decoded;
 use format::Checked;
+use instruction::Refusal;
 use tree_check::Answer;
 ghost use mathlib.Core.Path.{_≡_};
 ghost use Rattle.format.specs.Check.{checkOf, numberOf, valuesOf};
@@ -10,6 +12,10 @@ ghost use Rattle.asking.specs.Asking.{askOf};
 ghost use Rattle.clashing.specs.Entry as clashing;
 ghost use Rattle.clashing.specs.Entry.{clashAnswer};
 ghost use Rattle.tree_check.specs.Entry.{Reported};
+ghost use Rattle.decoding.specs.Decoding as decoding;
+ghost use Rattle.decoding.specs.Decoding.{decodeOf, rowsAfter};
+ghost use Rattle.instruction.specs.Answers.{refusalNumber, refusalValues};
+ghost use lib.ListN.{length};
 
 #[no_mangle]
 pub extern "C" fn dookerand_check(description: &[u8], values: &mut [u64; 4]) -> u32
@@ -129,6 +135,71 @@ pub extern "C" fn dookerand_tree(
         Answer::BadTree(node) => {
             *values = [node as u64, 0, 0, 0];
             11
+        }
+    }
+}
+
+// A refusal's number and values.
+fn refuse(refusal: Refusal, values: &mut [u64; 4]) -> u32
+    ensures { λ r. ⌜ (r ≡ refusalNumber refusal) × (now (values .exit) ≡ refusalValues refusal) ⌝ }
+{
+    match refusal {
+        Refusal::Short(place) => {
+            *values = [place as u64, 0, 0, 0];
+            2
+        }
+        Refusal::NoMatch { place, table } => {
+            *values = [place as u64, table as u64, 0, 0];
+            3
+        }
+        Refusal::Ambiguous { place, table } => {
+            *values = [place as u64, table as u64, 0, 0];
+            4
+        }
+        Refusal::Hole(place) => {
+            *values = [place as u64, 0, 0, 0];
+            5
+        }
+        Refusal::Far(place) => {
+            *values = [place as u64, 0, 0, 0];
+            6
+        }
+        Refusal::ManyRows => {
+            *values = [0, 0, 0, 0];
+            7
+        }
+        Refusal::Empty => {
+            *values = [0, 0, 0, 0];
+            8
+        }
+    }
+}
+
+#[no_mangle]
+pub extern "C" fn dookerand_decode(
+    description: &[u8],
+    context: u32,
+    code: &[u8],
+    rows: &mut [i64],
+    values: &mut [u64; 4],
+) -> u32
+    ensures { λ r. ⌜ (r ≡ decoding.numberOf (decodeOf (now (description .entry)) context (now (code .entry)) (length (now (rows .entry))))) × (now (values .exit) ≡ decoding.valuesOf (decodeOf (now (description .entry)) context (now (code .entry)) (length (now (rows .entry))))) ⌝ }
+    ensures { λ _. ⌜ now (rows .exit) ≡ rowsAfter (now (description .entry)) context (now (code .entry)) (now (rows .entry)) ⌝ }
+{
+    let decoded = decoding::decode(description, context, code, rows);
+    match decoded {
+        Decoded::Done(written) => {
+            *values = [written as u64, 0, 0, 0];
+            0
+        }
+        Decoded::Malformed { section, record } => {
+            *values = [section as u64, record as u64, 0, 0];
+            1
+        }
+        Decoded::Refused(refusal) => refuse(refusal, values),
+        Decoded::NoRoom => {
+            *values = [0, 0, 0, 0];
+            9
         }
     }
 }

@@ -57,6 +57,16 @@ piecesEach = 16
 abbrev pub farthest : ℕ
 farthest = 15
 
+-- "a 33rd row is needed", "four signed 64-bit numbers each", "text over 256 bytes"
+abbrev pub mostRows : ℕ
+mostRows = 32
+
+abbrev pub rowNumbers : ℕ
+rowNumbers = 4
+
+abbrev pub longestText : ℕ
+longestText = 256
+
 -- "that section's fault with record 65,535"
 abbrev pub sectionItself : ℕ
 sectionItself = 65535

@@ -1,2 +1,3 @@
 -- Laws of a table's range, for the layers above.
 pub mod Range
+mod Filling

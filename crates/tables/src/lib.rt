@@ -1,11 +1,20 @@
 // The tables of a well-formed description: the root, and where a table's constructors stand.
 use format::Layout;
+ghost use mathlib.Core.Bool.{_&&_};
 ghost use mathlib.Core.Path.{_≡_};
-ghost use Prim.Native.Nat.{_-_};
+ghost use Prim.Native.Nat.{_+_, _-_, _<_, _≤_};
+ghost use lib.Dec.{ltb};
+ghost use lib.ListN.{getD};
+ghost use Rattle.format.specs.Numbers.{tables};
 ghost use Rattle.format.specs.Layout.{Room};
 ghost use Rattle.format.specs.Description.{description};
 ghost use Rattle.format.specs.Check.{Formed};
+ghost use Rattle.format.specs.Rules.{tableAt};
 ghost use Rattle.format.specs.Tables.{rootOf, tableFirst, tableEnd};
+ghost use Rattle.tables.specs.Starts.{Starts};
+
+// A table has a number below TABLES; one more than that has the section's count.
+pub const STARTS: usize = 65;
 
 // A table's constructors: so many records of section 3 from the first on.
 pub struct Table {
@@ -47,6 +56,50 @@ pub fn table_of(desc: &[u8], layout: Layout, t: u32) -> Table
     let t = t as usize;
     let first = first_from(desc, layout, t);
     let end = first_from(desc, layout, t + 1);
+    Table {
+        first,
+        count: end - first,
+    }
+}
+
+fn is_below(desc: &[u8], layout: Layout, i: usize, t: usize) -> bool
+    requires { ⌜ Room (now desc) layout ⌝ }
+    ensures { λ r. ⌜ r ≡ (ltb i (layout .constructors .count) && ltb (tableAt (description (now (desc .entry)) layout) i) t) ⌝ }
+{
+    if i < layout.constructors.count {
+        let table = sections::table_at(desc, layout, i) as usize;
+        return table < t;
+    }
+    false
+}
+
+// The first constructor of every table, for those who ask many times: one pass over the constructors and the tables' numbers.
+pub fn starts(desc: &[u8], layout: Layout) -> [usize; STARTS]
+    requires { ⌜ Formed (now desc) layout ⌝ }
+    ensures { λ r. ⌜ Starts (description (now (desc .entry)) layout) r ⌝ }
+{
+    let mut starts = [0usize; STARTS];
+    let mut t = 0;
+    let mut i = 0;
+    while t < STARTS {
+        if is_below(desc, layout, i, t) {
+            i += 1;
+        } else {
+            starts[t] = i;
+            t += 1;
+        }
+    }
+    starts
+}
+
+pub fn table_by(starts: &[usize; STARTS], t: u8) -> Table
+    requires { ⌜ t < tables ⌝ }
+    requires { ⌜ getD (now starts) t 0 ≤ getD (now starts) (t + 1) 0 ⌝ }
+    ensures { λ r. ⌜ (r .first ≡ getD (now (starts .entry)) t 0) × (r .count ≡ getD (now (starts .entry)) (t + 1) 0 - getD (now (starts .entry)) t 0) ⌝ }
+{
+    let at = t as usize;
+    let first = starts[at];
+    let end = starts[at + 1];
     Table {
         first,
         count: end - first,

@@ -6,7 +6,7 @@ use dookerand::Answer;
 use generate::{bytes, instruction_set, instruction_starts, Rng};
 use reference::Description;
 
-use crate::timing::{median, print, rounds, Job};
+use crate::timing::{median, print, print_part, rounds, Job};
 use crate::{proved_check, reference_check};
 
 pub const TABLE: u32 = 0;
@@ -44,7 +44,12 @@ pub struct Set {
 impl Set {
     pub fn new(constructors: usize) -> Set {
         let description = instruction_set(constructors);
-        let (code, starts) = instruction_starts(&mut Rng::new(1), &description, 1000);
+        let code = instruction_starts(&mut Rng::new(1), &description, 1000);
+        Set::of(description, code)
+    }
+
+    /// A description with code for it, and where its instructions start.
+    pub fn of(description: Description, (code, starts): (Vec<u8>, Vec<usize>)) -> Set {
         Set {
             bytes: bytes(&description),
             description,
@@ -54,7 +59,7 @@ impl Set {
     }
 
     /// The code from the start of an instruction on.
-    fn code(&self, call: usize) -> &[u8] {
+    pub fn code(&self, call: usize) -> &[u8] {
         black_box(&self.code[self.starts[call % self.starts.len()]..])
     }
 
@@ -105,11 +110,12 @@ impl Set {
         let other_rest = differences(&whole, &other_check);
         let constructors = self.description.constructors.len();
         let length = self.bytes.len();
-        println!("{request}, table of {constructors}, {length} bytes");
+        println!("{request}, {constructors} constructors, {length} bytes");
         print("  whole", median(&proved), median(&whole));
         print("  check", median(&check), median(&other_check));
+        print_part("  check's part of whole", median(&check) / median(&proved));
         print("  whole - check", median(&rest), median(&other_rest));
-        print("  the same, parsed", median(&rest), median(&proper));
+        print("  alone, parsed", median(&rest), median(&proper));
     }
 }
 

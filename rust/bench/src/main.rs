@@ -4,9 +4,12 @@
 //! for counting instructions; `bench one-ask` one question to a table of 512
 //! constructors, `bench one-clash` its clash check, `bench one-tree` the check
 //! of a tree of 4,095 nodes for it, and `bench one-check` the check of the
-//! description that those three begin with.
+//! description that those three begin with; `bench one-decode` decodes one
+//! instruction of a set of 200 constructors, and `bench one-decode-check` is
+//! the check that this begins with.
 
 mod choosing;
+mod decoding;
 mod timing;
 mod trees;
 
@@ -18,6 +21,17 @@ use generate::{bytes, longest};
 
 use timing::{median, print, rounds};
 
+/// Requests that are made once.
+const ONES: [&str; 7] = [
+    "one",
+    "one-ask",
+    "one-clash",
+    "one-check",
+    "one-tree",
+    "one-decode",
+    "one-decode-check",
+];
+
 fn main() {
     match std::env::args().nth(1).as_deref() {
         None => all(),
@@ -26,8 +40,10 @@ fn main() {
         Some("one-clash") => print_answer(choosing::one_clash()),
         Some("one-check") => print_answer(choosing::one_check()),
         Some("one-tree") => print_answer(trees::one_tree()),
+        Some("one-decode") => print_answer(decoding::one_decode()),
+        Some("one-decode-check") => print_answer(decoding::one_check()),
         Some(_) => {
-            eprintln!("usage: bench [one | one-ask | one-clash | one-check | one-tree]");
+            eprintln!("usage: bench [{}]", ONES.join(" | "));
             std::process::exit(2);
         }
     }
@@ -38,6 +54,7 @@ fn all() {
     check("S", &bytes(&description_s()), 5_000);
     choosing::all();
     trees::all();
+    decoding::all();
 }
 
 fn print_answer(answer: Answer) {

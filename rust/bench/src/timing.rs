@@ -38,3 +38,8 @@ pub fn print(name: &str, proved: f64, reference: f64) {
     let ratio = proved / reference;
     println!("{name}: proved {proved:.3} us, reference {reference:.3} us, ratio {ratio:.2}");
 }
+
+/// Prints which part of a proved call's time something takes.
+pub fn print_part(name: &str, part: f64) {
+    println!("{name}: proved {:.1} %", 100.0 * part);
+}

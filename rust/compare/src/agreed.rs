@@ -13,16 +13,23 @@ pub fn agreed(
 ) -> (u32, [u64; 4]) {
     let (number, values) = expected.number_and_values();
     if (answer.number, answer.values) != (number, values) {
-        println!("difference at \"{kind}\": {}", request());
-        println!("reference {number} {values:?}");
-        println!("library   {} {:?}", answer.number, answer.values);
-        println!("description, {} bytes:", description.len());
-        for line in description.chunks(32) {
-            println!("{}", hex(line));
-        }
-        std::process::exit(1);
+        let expected = format!("{number} {values:?}");
+        let found = format!("{} {:?}", answer.number, answer.values);
+        differ(kind, &request(), description, &expected, &found);
     }
     (number, values)
+}
+
+/// Stops with what the reference gave and what the library did.
+pub fn differ(kind: &str, request: &str, description: &[u8], expected: &str, found: &str) -> ! {
+    println!("difference at \"{kind}\": {request}");
+    println!("reference {expected}");
+    println!("library   {found}");
+    println!("description, {} bytes:", description.len());
+    for line in description.chunks(32) {
+        println!("{}", hex(line));
+    }
+    std::process::exit(1);
 }
 
 pub fn hex(bytes: &[u8]) -> String {

@@ -4,6 +4,7 @@
 mod agreed;
 mod check;
 mod choosing;
+mod decoding;
 mod tally;
 mod trees;
 mod wrong_leaf;
@@ -27,6 +28,7 @@ fn main() {
     timed("check", || check::compare(&mut Rng::new(seed)));
     timed("ask and clash", || choosing::compare(&mut Rng::new(seed)));
     timed("tree check", || trees::compare(&mut Rng::new(seed)));
+    timed("decode", || decoding::compare(&mut Rng::new(seed)));
 }
 
 fn timed(name: &str, compare: impl FnOnce()) {

@@ -29,6 +29,13 @@ impl Tally {
         self.lines[line].1[column] += 1;
     }
 
+    /// Stops if a column has fewer requests than these.
+    pub fn at_least(&self, least: usize) {
+        for (name, sum) in self.columns.iter().zip(self.sums()) {
+            assert!(sum >= least, "only {sum} of \"{name}\"");
+        }
+    }
+
     fn sums(&self) -> Vec<usize> {
         let column = |i: usize| self.lines.iter().map(|(_, counts)| counts[i]).sum();
         (0..self.columns.len()).map(column).collect()

@@ -1,9 +1,11 @@
 //! The proved decoder, made safe to call.
 
 mod choosing;
+mod decoding;
 mod trees;
 
 pub use choosing::{ask, clash};
+pub use decoding::decode;
 pub use trees::tree;
 
 mod c {

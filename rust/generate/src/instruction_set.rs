@@ -1,8 +1,9 @@
-//! A description like that of a processor, for timing.
+//! Descriptions like that of a processor, for timing.
 
 use reference::{Constructor, Description, Field, Operand, Pattern};
 
-use crate::example::{field, literal, name, operand, shown};
+use crate::example::{constructor, field, literal, name, operand, shown};
+use crate::planted::planted;
 use crate::Rng;
 
 /// One table of so many constructors (1 to 512). Opcodes are the upper five
@@ -33,6 +34,72 @@ pub fn instruction_set(constructors: usize) -> Description {
     }
     assert_eq!(d.constructors.len(), constructors);
     d
+}
+
+/// So many constructors (8 to 512) in three tables: an instruction set in which
+/// the second operands are tables. Table 0 is a displacement of one byte or
+/// two, table 1 a mode: a register, a byte, a register with a displacement, or
+/// two registers with one.
+pub fn nested_instruction_set(constructors: usize) -> Description {
+    const INNER: usize = 6;
+    let mut d = instruction_set(constructors - INNER);
+    for constructor in &mut d.constructors {
+        constructor.table = 2;
+    }
+    for second in [1, 3] {
+        d.operands[second] = operand(Operand::TABLE, 1, 1, 0);
+    }
+    let fields = d.fields.len() as u8;
+    d.fields.extend([
+        field(0, 1, 0, 0, 6, Field::SIGNED_HEX),
+        field(0, 2, 1, 0, 14, Field::SIGNED_HEX),
+        field(0, 1, 0, 3, 5, Field::NAMES),
+    ]);
+    let first = d.operands.len() as u16;
+    d.operands.extend([
+        operand(Operand::FIELD, fields, 0, 0),
+        operand(Operand::FIELD, fields + 1, 0, 0),
+        operand(Operand::FIELD, 1, 0, 1),
+        operand(Operand::FIELD, 0, 0, 0),
+        operand(Operand::TABLE, 0, 0, 1),
+        operand(Operand::FIELD, 0, 0, 0),
+        operand(Operand::FIELD, fields + 2, 0, 0),
+        operand(Operand::TABLE, 0, 0, 1),
+    ]);
+    let pieces = d.pieces.len() as u16;
+    d.pieces.extend([1, 2, 3].map(shown));
+    let inner: [Constructor; INNER] = [
+        constructor(0, 1, (0x80, 0x00), (first, 1), (pieces, 1)),
+        constructor(0, 2, (0x80, 0x80), (first + 1, 1), (pieces, 1)),
+        constructor(1, 1, (0xc0, 0x00), (first + 3, 1), (pieces, 1)),
+        constructor(1, 2, (0xc0, 0x40), (first + 2, 1), (pieces, 1)),
+        constructor(1, 1, (0xc0, 0x80), (first + 3, 2), (pieces, 2)),
+        constructor(1, 1, (0xc0, 0xc0), (first + 5, 3), (pieces, 3)),
+    ];
+    d.constructors.splice(..0, inner);
+    d
+}
+
+/// So many instructions one after the other that decode in this context, and
+/// where they start.
+pub fn instruction_stream(
+    rng: &mut Rng,
+    d: &Description,
+    context: u32,
+    count: usize,
+) -> (Vec<u8>, Vec<usize>) {
+    let (mut code, mut starts) = (Vec::new(), Vec::new());
+    while starts.len() < count {
+        let (bytes, _) = planted(rng, d, 16);
+        if let Ok(rows) = reference::decode(d, context, &bytes) {
+            let length = rows[0][3] as usize;
+            starts.push(code.len());
+            code.extend(&bytes[..length]);
+        }
+    }
+    // No pattern of the last one misses a byte.
+    code.extend([0; 8]);
+    (code, starts)
 }
 
 /// Code that starts with an instruction at each of so many places.

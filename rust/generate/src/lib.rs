@@ -4,6 +4,7 @@
 mod allowed;
 mod code;
 mod counts;
+mod decodable;
 pub mod example;
 mod instruction_set;
 mod limits;
@@ -11,7 +12,9 @@ mod longest;
 mod meeting;
 mod mutate;
 mod patterns;
+mod planted;
 mod rng;
+mod row_counts;
 mod rules;
 mod tables;
 mod tree;
@@ -23,11 +26,16 @@ mod write;
 pub use allowed::{Change, CHANGES};
 pub use code::{code, context, input, Input};
 pub use counts::count_faults;
-pub use instruction_set::{instruction_set, instruction_starts};
+pub use decodable::{decodable, Leaning};
+pub use instruction_set::{
+    instruction_set, instruction_starts, instruction_stream, nested_instruction_set,
+};
 pub use limits::{limits, Case};
 pub use longest::longest;
 pub use mutate::{change_bytes, change_counts, change_records, insert_or_remove, random_records};
+pub use planted::planted;
 pub use rng::Rng;
+pub use row_counts::with_rows;
 pub use rules::{rules, Rule};
 pub use tables::{meeting_tables, table_ranges};
 pub use tree::{small_tree, tree, tree_bytes, tree_nodes, Node, NODE_LIMIT, NONE};

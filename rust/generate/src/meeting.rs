@@ -50,13 +50,13 @@ pub fn meeting(rng: &mut Rng, space: &Space, kind: Meeting, most: usize) -> Vec<
 /// A pattern as one word: the bytes' 64 bits and, above them, the 32 of the
 /// context.
 #[derive(Clone, Copy, Debug, Default, PartialEq, Eq, PartialOrd, Ord)]
-struct Bits {
+pub struct Bits {
     mask: u128,
     value: u128,
 }
 
 impl Bits {
-    fn pattern(self) -> Pattern {
+    pub fn pattern(self) -> Pattern {
         Pattern {
             byte_mask: self.mask as u64,
             byte_value: self.value as u64,
@@ -65,7 +65,7 @@ impl Bits {
         }
     }
 
-    fn with(self, bit: u128, one: bool) -> Bits {
+    pub fn with(self, bit: u128, one: bool) -> Bits {
         Bits {
             mask: self.mask | bit,
             value: self.value & !bit | if one { bit } else { 0 },

@@ -82,7 +82,7 @@ fn count(rng: &mut Rng, limit: usize) -> usize {
 }
 
 /// Rising numbers: without a gap from 0, or anywhere up to 63.
-fn table_numbers(rng: &mut Rng, limit: usize) -> Vec<u8> {
+pub fn table_numbers(rng: &mut Rng, limit: usize) -> Vec<u8> {
     let count = rng.within(1..=limit) as u8;
     if rng.once_in(2) {
         return (0..count).collect();
@@ -112,7 +112,7 @@ fn run(rng: &mut Rng, text: usize, longest: usize) -> (u16, u8) {
     (offset as u16, length as u8)
 }
 
-fn name(rng: &mut Rng, text: usize) -> Name {
+pub fn name(rng: &mut Rng, text: usize) -> Name {
     let longest = if rng.once_in(6) { 0 } else { 255 };
     let (text_offset, length) = run(rng, text, longest);
     Name {
@@ -197,14 +197,8 @@ fn minimum_length(rng: &mut Rng, pattern: &Pattern) -> u8 {
 /// New operands, or records that others use too.
 fn operand_range(rng: &mut Rng, d: &mut Description, lower_tables: &[u8]) -> (u16, u8) {
     if rng.once_in(4) {
-        let (first, count) = some_range(rng, d.operands.len(), 8);
-        let range = &d.operands[first..first + count];
-        let fits = range.iter().enumerate().all(|(earlier, o)| {
-            let table_fits = o.kind != Operand::TABLE || lower_tables.contains(&o.index);
-            usize::from(o.anchor) <= earlier && table_fits
-        });
-        if fits {
-            return (first as u16, count as u8);
+        if let Some(range) = shared_operands(rng, d, lower_tables) {
+            return range;
         }
     }
     if rng.once_in(5) {
@@ -219,8 +213,19 @@ fn operand_range(rng: &mut Rng, d: &mut Description, lower_tables: &[u8]) -> (u1
     keep_limit(&mut d.operands, first, LIMITS[3])
 }
 
+/// Records that others may use too; nothing if these don't fit here.
+pub fn shared_operands(rng: &mut Rng, d: &Description, lower_tables: &[u8]) -> Option<(u16, u8)> {
+    let (first, count) = some_range(rng, d.operands.len(), 8);
+    let range = &d.operands[first..first + count];
+    let fits = range.iter().enumerate().all(|(earlier, o)| {
+        let table_fits = o.kind != Operand::TABLE || lower_tables.contains(&o.index);
+        usize::from(o.anchor) <= earlier && table_fits
+    });
+    fits.then_some((first as u16, count as u8))
+}
+
 /// Takes back what is above the limit.
-fn keep_limit<T>(records: &mut Vec<T>, first: usize, limit: usize) -> (u16, u8) {
+pub fn keep_limit<T>(records: &mut Vec<T>, first: usize, limit: usize) -> (u16, u8) {
     if records.len() > limit {
         records.truncate(first);
     }
@@ -263,7 +268,7 @@ pub fn used_operand(
 }
 
 /// What no user judges may be anything: an anchor, a table number.
-fn add_unused_operand(rng: &mut Rng, d: &mut Description) {
+pub fn add_unused_operand(rng: &mut Rng, d: &mut Description) {
     let (kind, index) = match rng.index_where(d.fields.len(), |i| !d.fields[i].is_context()) {
         Some(index) if rng.once_in(2) => (Operand::FIELD, index as u8),
         _ => (Operand::TABLE, rng.byte()),
@@ -275,7 +280,7 @@ fn add_unused_operand(rng: &mut Rng, d: &mut Description) {
 }
 
 /// New pieces, or records that others use too.
-fn piece_range(rng: &mut Rng, d: &mut Description, operand_count: u8) -> (u16, u8) {
+pub fn piece_range(rng: &mut Rng, d: &mut Description, operand_count: u8) -> (u16, u8) {
     if rng.once_in(4) {
         let (first, count) = some_range(rng, d.pieces.len(), 16);
         if shows_well(&d.pieces[first..first + count], operand_count) {
@@ -321,7 +326,7 @@ fn shows_well(pieces: &[Piece], operand_count: u8) -> bool {
 }
 
 /// A range of no records may stand anywhere up to the section's very end.
-fn place_empty_ranges(rng: &mut Rng, d: &mut Description) {
+pub fn place_empty_ranges(rng: &mut Rng, d: &mut Description) {
     for c in &mut d.constructors {
         if c.operand_count == 0 {
             c.first_operand = place(rng, d.operands.len());

@@ -92,6 +92,40 @@ fn positions_above_16() {
     );
 }
 
+/// Of several faults at one place the table's order decides, and of faults at
+/// several places the walk's.
+#[test]
+fn the_order_of_refusals() {
+    // Far and short: a field, a constructor's start, a constructor's end.
+    let field = walk(vec![operand(0, 0, 0, 14), operand(0, 0, 1, 1)]);
+    assert_eq!(
+        answers(&field, &[1; 15]),
+        Err(Refusal::TooFar { place: 16 })
+    );
+    let mut start = walk(vec![operand(0, 0, 0, 14), operand(1, 0, 1, 15)]);
+    start.constructors[0] = constructor(0, 1, (0xff, 0x02), (0, 1), (0, 1));
+    assert_eq!(
+        answers(&start, &[1; 15]),
+        Err(Refusal::TooFar { place: 30 })
+    );
+    let mut end = walk(vec![operand(1, 0, 0, 2)]);
+    end.constructors[0] = constructor(0, 15, (0, 0), (0, 1), (0, 1));
+    assert_eq!(answers(&end, &[1; 3]), Err(Refusal::TooFar { place: 2 }));
+    // A refusal inside comes before the outer constructor's own.
+    end.constructors[0] = constructor(0, 1, (0xff, 0x02), (0, 1), (0, 1));
+    end.constructors[1].minimum_length = 16;
+    let no_match = Refusal::NoMatch { place: 2, table: 0 };
+    assert_eq!(answers(&end, &[1; 3]), Err(no_match));
+    assert_eq!(answers(&end, &[2; 3]), Err(Refusal::Short { place: 0 }));
+    // Past the input's end choosing still comes before the end's test.
+    let mut past = walk(vec![operand(1, 0, 0, 5)]);
+    past.constructors[0] = constructor(0, 0, (0, 0), (0, 0), (0, 0));
+    past.constructors[0].pattern.context_mask = 8;
+    past.constructors[0].pattern.context_value = 8;
+    let no_match = Refusal::NoMatch { place: 5, table: 0 };
+    assert_eq!(answers(&past, &[1]), Err(no_match));
+}
+
 #[test]
 fn rows_up_to_32() {
     // Tables 1 to 4 each walk two operands of the table before.
@@ -114,6 +148,11 @@ fn rows_up_to_32() {
     // 31 rows of table 4 and one of the root.
     assert_eq!(answers(&tower(1), &[1]).unwrap().len(), 32);
     assert_eq!(answers(&tower(2), &[1]), Err(Refusal::TooManyRows));
+    // Whatever else is wrong with the 33rd.
+    let mut far = tower(2);
+    far.operands[9].offset = 15;
+    far.fields[0].width = 4;
+    assert_eq!(answers(&far, &[1]), Err(Refusal::TooManyRows));
     let swept = sweep(&tower(2), 0, &[1], 1);
     assert_eq!(swept.rows, [[0, 1, 7, 65_535]]);
 }

@@ -1,0 +1,4 @@
+-- Laws of decoding to rows.
+pub mod Numbers
+mod Answers
+pub mod Facts

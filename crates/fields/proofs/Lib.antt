@@ -1,0 +1,4 @@
+-- Laws of fields, values and looks.
+pub mod Values
+pub mod Tokens
+pub mod Signs

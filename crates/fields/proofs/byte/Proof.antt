@@ -1,0 +1,40 @@
+use mathlib.Core.Logic.{⊎-elim}
+use mathlib.Core.Path.{_∙_}
+use native.Mathlib.Omega.{arith}
+use Rattle.fields.proofs.Tokens.{little-byte, big-byte}
+use borrow.Author.Needs.{needs}
+use Rattle.fields.proofs.byte.Statement.{statement}
+use Rattle.fields.proofs.byte.Tie as tie
+use Rattle.fields.proofs.byte.Reads as reads
+use Rattle.fields.proofs.byte.Lts as lts
+use Rattle.fields.proofs.wide.Reads as wide-reads
+
+-- src/lib.rt:52:9
+sub-k : tie.Need-sub-k
+sub-k c = search needs
+
+-- src/lib.rt:52:9
+sub-k-2 : tie.Need-sub-k-2
+sub-k-2 c = search needs
+
+-- src/lib.rt:54:10
+shared-slice-read-wide : tie.Need-shared-slice-read-wide
+shared-slice-read-wide c = ⊎-elim (λ w. omega arith) (λ w. omega arith) (c .before .before .if1 .came)
+
+-- src/lib.rt:54:5
+wide-requires : tie.Need-wide-requires
+wide-requires c κs = search needs
+
+-- src/lib.rt:45:1
+returns : tie.Need-returns
+returns c =
+    let s = c .before .before .before .before .before .before in
+    let k = c .before .before .before .if1 in (
+      c .wide .ensures .0
+          ∙ ⊎-elim (λ w. rw (w .1) (little-byte (s .args .field) (s .args .code .now) (s .args .j) (w .0 .taken)))
+          (λ w. rw (w .2) (big-byte (s .args .field) (s .args .code .now) (s .args .j) (w .0 .left))) (k .came),
+      c .wide .ensures .1,
+    )
+
+pub byte-spec : {M : Type 1} → statement M
+byte-spec = tie.close (tie.spec sub-k sub-k-2 shared-slice-read-wide wide-requires returns)

@@ -1,0 +1,85 @@
+use Prim.Native.Nat.{_-_, _^_, _≤_, _<_}
+use mathlib.Core.Path.{_≡_, _∙_}
+use native.Mathlib.Omega.{arith}
+use Rattle.fields.specs.Value.{tokenByte}
+use Rattle.fields.specs.Token.{numberFrom, tokenOf}
+use Rattle.fields.proofs.Tokens.{number-narrow, number-more, token-byte}
+use Rattle.fields.proofs.token.Statement.{statement}
+use Rattle.fields.proofs.token.Tie as tie
+use Rattle.fields.proofs.token.Reads as reads
+use Rattle.fields.proofs.token.Lts as lts
+use Rattle.fields.proofs.byte.Reads as byte-reads
+
+abbrev Inv-loop : tie.InvT-loop
+Inv-loop field code v₀ j₀ v j = (j ≤ field .width) × (v ≡ numberFrom (tokenByte field code) j (field .width - j))
+
+abbrev μ-loop : tie.MeasureT-loop
+μ-loop field code v₀ j₀ v j = j
+
+-- src/lib.rt:70:5
+loop-holds : tie.Need-loop-holds Inv-loop μ-loop
+unfolding numberFrom
+loop-holds c =
+    let z : c .before .args .field .width - c .before .args .field .width ≡ 0 = omega arith in
+    (omega arith, rw z)
+
+-- src/lib.rt:71:9
+sub-j : tie.Need-sub-j Inv-loop μ-loop
+sub-j c = omega arith
+
+-- src/lib.rt:72:13
+byte-requires : tie.Need-byte-requires Inv-loop μ-loop
+byte-requires c κs = omega arith
+
+v-small : (c : lts.After-byte (byte-reads.Asked, byte-reads.Learnt) reads.Pre reads.Post Inv-loop μ-loop) → c .before .before .loop .v < 2 ^ 32
+v-small c =
+    let s = c .before .before .before .before in
+    rw (c .before .before .loop .inv .1)
+    (number-narrow (tokenByte (s .args .field) (s .args .code .now))
+    (token-byte (s .args .field) (s .args .code .now) (λ i. omega (arith, c .before .before .before .shared-slice-known .given i))) _ _ (omega arith))
+
+-- src/lib.rt:72:36
+mul-v : tie.Need-mul-v Inv-loop μ-loop
+mul-v c = omega (arith, v-small c)
+
+-- src/lib.rt:72:13
+add-v : tie.Need-add-v Inv-loop μ-loop
+add-v c = omega (arith, v-small c)
+
+-- src/lib.rt:70:5
+loop-less : tie.Need-loop-less Inv-loop μ-loop
+loop-less c = omega arith
+
+-- src/lib.rt:70:5
+loop-again : tie.Need-loop-again Inv-loop μ-loop
+loop-again c =
+    let l = c .before .before .loop in
+    let s = c .before .before .before .before in (
+      omega arith,
+      rw (c .byte .ensures .0, l .inv .1)
+          (number-more (tokenByte (s .args .field) (s .args .code .now)) (l .j) (s .args .field .width) (omega arith) (l .inv .0)),
+    )
+
+-- src/lib.rt:64:1
+returns : tie.Need-returns Inv-loop μ-loop
+unfolding tokenOf
+returns c =
+    let s = c .before .before .before in
+    let z : c .before .loop .j ≡ 0 = omega arith in
+    let w : s .args .field .width - 0 ≡ s .args .field .width = omega arith in
+    rw z at (c .before .loop .inv .1) ∙ rw w
+
+pub token-spec : {M : Type 1} → statement M
+token-spec =
+    tie.close
+    (tie.spec
+    Inv-loop
+    μ-loop
+    loop-holds
+    sub-j
+    byte-requires
+    mul-v
+    add-v
+    loop-less
+    loop-again
+    returns)

@@ -1,0 +1,108 @@
+// The value of a field, read by whole bytes, and how its look shows it.
+use format::Field;
+ghost use mathlib.Core.Path.{_≡_};
+ghost use Prim.Native.Nat.{_<_, _≤_, _/_, _%_, _^_};
+ghost use lib.ListN.{length};
+ghost use Rattle.fields.specs.Value.{Readable, tokenByte, valueOf};
+ghost use Rattle.fields.specs.Token.{tokenOf};
+ghost use Rattle.fields.specs.Look.{lookOf, numberOf};
+
+// How a value is shown: as a number, with a sign or without, in a base; or by its name.
+pub enum Look {
+    Number { signed: bool, base: u8 },
+    Name,
+}
+
+pub fn look_of(look: u8) -> Look
+    ensures { λ r. ⌜ r ≡ lookOf look ⌝ }
+{
+    match look {
+        0 => Look::Number {
+            signed: false,
+            base: 10,
+        },
+        1 => Look::Number {
+            signed: true,
+            base: 10,
+        },
+        2 => Look::Number {
+            signed: false,
+            base: 16,
+        },
+        3 => Look::Number {
+            signed: true,
+            base: 16,
+        },
+        4 => Look::Name,
+        5..=255 => Look::Number {
+            signed: false,
+            base: 10,
+        },
+    }
+}
+
+// Byte j of the field's token, byte 0 the lowest.
+fn byte(field: Field, code: &[u8], j: u8) -> u64
+    requires { ⌜ (field .width ≤ length (now code)) × (j < field .width) ⌝ }
+    ensures { λ r. ⌜ (r ≡ tokenByte field (now (code .entry)) j) × (r < 256) ⌝ }
+{
+    let k = if field.order == 0 {
+        j
+    } else {
+        field.width - 1 - j
+    };
+    wide(code[k as usize])
+}
+
+fn wide(x: u8) -> u64
+    ensures { λ r. ⌜ (r ≡ x) × (r < 256) ⌝ }
+{
+    x as u64
+}
+
+// The field's token as a number, from its highest byte down.
+fn token(field: Field, code: &[u8]) -> u64
+    requires { ⌜ (field .width ≤ 4) × (field .width ≤ length (now code)) ⌝ }
+    ensures { λ r. ⌜ r ≡ tokenOf field (now (code .entry)) ⌝ }
+{
+    let mut v: u64 = 0;
+    let mut j = field.width;
+    while 0 < j {
+        j -= 1;
+        v = byte(field, code, j) + 256 * v;
+    }
+    v
+}
+
+// So many bits of a number, from bit `low` on.
+fn cut(whole: u64, low: u8, bits: u8) -> u64
+    requires { ⌜ (low < 64) × (bits < 64) ⌝ }
+    ensures { λ r. ⌜ r ≡ whole / 2 ^ low % 2 ^ bits ⌝ }
+{
+    (whole >> low) % (1 << bits)
+}
+
+// The field's bits as a number, from the code at its start or from the context.
+pub fn value(field: Field, code: &[u8], context: u32) -> u64
+    requires { ⌜ Readable field ⌝ }
+    requires { ⌜ (field .source ≡ 0 → field .width ≤ length (now code)) ⌝ }
+    ensures { λ r. ⌜ r ≡ valueOf field (now (code .entry)) context ⌝ }
+{
+    let bits = field.high + 1 - field.low;
+    if field.source == 0 {
+        return cut(token(field, code), field.low, bits);
+    }
+    cut(context as u64, field.low, bits)
+}
+
+// The number that a value of so many bits is shown as; the top bit is the sign.
+pub fn number(signed: bool, bits: u8, value: u64) -> i64
+    requires { ⌜ (1 ≤ bits) × (bits ≤ 32) × (value < 2 ^ bits) ⌝ }
+    ensures { λ r. ⌜ r ≡ numberOf signed bits value ⌝ }
+{
+    let v = value as i64;
+    if signed & (value >> (bits - 1) == 1) {
+        return v - (1i64 << bits);
+    }
+    v
+}

@@ -1,0 +1,6 @@
+-- Decoding one instruction of a well-formed description (document 01, "Decoding").
+pub mod Tree
+pub mod Walk
+pub mod Answers
+pub mod Usable
+pub mod Facts

@@ -1,0 +1,2 @@
+-- Where every table of a description starts.
+pub mod Starts

@@ -1,0 +1,4 @@
+-- The text of a decoded instruction (document 01, "Decoding", Text).
+pub mod Text
+pub mod Places
+pub mod Adding

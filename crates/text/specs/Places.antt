@@ -1,0 +1,58 @@
+-- The same text, read off the scratch rows by their places: what the code computes.
+use Prim.Native.Nat.{ℕ, zero, suc, _+_, _-_, _*_, _≤_, _<_}
+use mathlib.Core.Bool.{cond}
+use mathlib.Core.List.{List, [], _++_}
+use mathlib.Core.Path.{_≡_}
+use lib.Dec.{eqb}
+use lib.IntN.{ℤ, pos, natAbs}
+use lib.ListN.{length, getD, take}
+use Rattle.format.specs.Numbers.{mostRows}
+use Rattle.format.specs.Description.{Description, noField, noConstructor}
+use Rattle.fields.specs.Look.{lookOf}
+use Rattle.printing.specs.Numerals.{numberText}
+use Rattle.walking.specs.Scratch.{scratchNumbers, scratchLength}
+use Rattle.text.specs.Text.{baseOf, constructorText, nameText}
+
+-- number j of row r
+abbrev pub cell : List ℤ → ℕ → ℕ → ℤ
+cell rows r j = getD rows (scratchNumbers * r + j) (pos 0)
+
+unfoldable pub kindAt : List ℤ → ℕ → ℕ
+kindAt rows r = natAbs (cell rows r 0)
+
+unfoldable pub numberAt : List ℤ → ℕ → ℕ
+numberAt rows r = natAbs (cell rows r 1)
+
+unfoldable pub lastAt : List ℤ → ℕ → ℤ
+lastAt rows r = cell rows r 3
+
+unfoldable pub sizeAt : List ℤ → ℕ → ℕ
+sizeAt rows r = natAbs (cell rows r 4)
+
+-- the row behind the j parts that start at row r
+unfoldable pub skip : List ℤ → ℕ → ℕ → ℕ
+skip rows r zero = r
+skip rows r (suc j) = skip rows (r + sizeAt rows r) j
+
+module _ (d : Description) (rows : List ℤ) where
+  -- the text of the part at row r, nested so deep at most; a row's operands stand behind it, so one level more than there may be
+  -- rows leaves none out
+  unfoldable pub textAt : ℕ → ℕ → List ℕ
+  textAt zero r = []
+  textAt (suc depth) r =
+      cond (eqb (kindAt rows r) 0)
+      (constructorText d (numberAt rows r) (λ n. textAt depth (skip rows (r + 1) (n - 1))))
+      (cond (eqb (kindAt rows r) 1)
+      (numberText (baseOf (lookOf (getD (d .fields) (numberAt rows r) noField .look))) (lastAt rows r))
+      (nameText d (natAbs (lastAt rows r))))
+
+  -- the rows' numbers are those of the description's records, and each operand of a constructor has its row behind it
+  pub record Sound (used : ℕ) : Type 0 where
+    pub long : length rows ≡ scratchLength
+    pub few : used ≤ mostRows
+    pub constructors : (r : ℕ) → r < used → kindAt rows r ≡ 0 → numberAt rows r < length (d .constructors)
+    pub operands : (r : ℕ) → r < used → kindAt rows r ≡ 0 → (j : ℕ)
+        → j < getD (d .constructors) (numberAt rows r) noConstructor .operands .count
+        → (r < skip rows (r + 1) j) × (skip rows (r + 1) j < used)
+    pub fields : (r : ℕ) → r < used → kindAt rows r ≡ 1 → numberAt rows r < length (d .fields)
+    pub names : (r : ℕ) → r < used → (kindAt rows r ≡ 0 → ⊥) → (kindAt rows r ≡ 1 → ⊥) → natAbs (lastAt rows r) < length (d .names)

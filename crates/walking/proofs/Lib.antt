@@ -1,0 +1,5 @@
+-- Laws of the walk.
+mod Putting
+pub mod Steps
+mod Ranges
+mod Turns

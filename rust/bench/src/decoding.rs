@@ -1,0 +1,53 @@
+//! Decoding instructions one by one.
+
+use std::cell::RefCell;
+use std::hint::black_box;
+
+use dookerand::Answer;
+use generate::{instruction_stream, nested_instruction_set, Rng};
+
+use crate::choosing::Set;
+
+const CONTEXT: u32 = 1;
+
+/// Numbers for the most rows.
+const LENT: usize = 128;
+
+pub fn all() {
+    let set = set();
+    let lent = RefCell::new([0; LENT]);
+    let proved = |call| {
+        let rows = &mut *black_box(lent.borrow_mut());
+        let answer = dookerand::decode(black_box(&set.bytes), CONTEXT, set.code(call), rows);
+        assert_eq!(black_box(answer).number, 0);
+    };
+    let whole = |call| {
+        let rows = &mut *black_box(lent.borrow_mut());
+        let bytes = black_box(&set.bytes);
+        let answer = reference::requests::rows(bytes, CONTEXT, set.code(call), rows);
+        assert_eq!(black_box(answer.number_and_values()).0, 0);
+    };
+    let alone = |call| {
+        let description = black_box(&set.description);
+        let rows = reference::decode(description, CONTEXT, set.code(call));
+        assert!(black_box(rows).is_ok());
+    };
+    set.compare("decode", 100, [&proved, &whole, &alone]);
+}
+
+pub fn one_decode() -> Answer {
+    let mut rows = [0; LENT];
+    let set = set();
+    dookerand::decode(black_box(&set.bytes), CONTEXT, set.code(0), &mut rows)
+}
+
+pub fn one_check() -> Answer {
+    dookerand::check(black_box(&set().bytes))
+}
+
+/// A set with tables inside tables, and a stream of its instructions.
+fn set() -> Set {
+    let description = nested_instruction_set(200);
+    let stream = instruction_stream(&mut Rng::new(1), &description, CONTEXT, 1000);
+    Set::of(description, stream)
+}

@@ -1,0 +1,42 @@
+//! Decoding one instruction to rows.
+
+use crate::{answer, Answer};
+
+mod c {
+    extern "C" {
+        pub fn dookerand_decode(
+            description: *const u8,
+            description_len: usize,
+            context: u32,
+            code: *const u8,
+            code_len: usize,
+            rows: *mut i64,
+            rows_len: usize,
+            values: *mut u64,
+        ) -> u32;
+    }
+}
+
+/// Decodes the instruction at the code's start: 0 with the number of rows
+/// written from the first lent number on, four numbers each, or a refusal: 1
+/// to 9. A refusal leaves the lent numbers as they were, and so does 0 those
+/// behind its rows.
+pub fn decode(description: &[u8], context: u32, code: &[u8], rows: &mut [i64]) -> Answer {
+    answer(|values| {
+        // SAFETY: slices give readable ranges and, empty too, no null
+        // pointers; the call writes the four values and numbers of `rows`,
+        // which as a mutable slice overlaps no other.
+        unsafe {
+            c::dookerand_decode(
+                description.as_ptr(),
+                description.len(),
+                context,
+                code.as_ptr(),
+                code.len(),
+                rows.as_mut_ptr(),
+                rows.len(),
+                values,
+            )
+        }
+    })
+}
