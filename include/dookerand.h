@@ -42,6 +42,21 @@ uint32_t dookerand_tree(const uint8_t *description, size_t description_len, uint
 uint32_t dookerand_decode(const uint8_t *description, size_t description_len, uint32_t context, const uint8_t *code,
                           size_t code_len, int64_t *rows, size_t rows_len, uint64_t values[4]);
 
+/* Decodes the instruction at the code's start to text. `text_len` counts bytes, 256 always suffice, and `text` overlaps
+ * no other slice. Only answer 0 writes there: its bytes, from text[0] on, without a 0 at their end, and nothing behind
+ * them. 0: the bytes written. 1: section, record. 2: place. 3 and 4: place, table number. 5 and 6: place. 7, 8, 9 and
+ * 10: 0. */
+uint32_t dookerand_text(const uint8_t *description, size_t description_len, uint32_t context, const uint8_t *code,
+                        size_t code_len, uint8_t *text, size_t text_len, uint64_t values[4]);
+
+/* Sweeps the code from byte 0 on to rows of four numbers each: start, length, answer, root constructor. An instruction
+ * that is refused by answers 3 to 8 is a gap: length 1, that answer, constructor 65,535. `rows_len` counts numbers; a
+ * rest below four is no row. `rows` overlaps no other slice. The rows stand from rows[0] on, and nothing is written
+ * behind them. 0: the end, rows written, next byte; the end is 0 where the code is used up, 1 where the rows are full,
+ * 2 where the next instruction is short, tested in this order. 1: section, record, and nothing is written. */
+uint32_t dookerand_sweep(const uint8_t *description, size_t description_len, uint32_t context, const uint8_t *code,
+                         size_t code_len, int64_t *rows, size_t rows_len, uint64_t values[4]);
+
 #ifdef __cplusplus
 }
 #endif

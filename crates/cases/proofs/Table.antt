@@ -35,8 +35,13 @@ use Rattle.instruction.specs.Tree.{rowsOf, rowsOfAll, numbersOf}
 use Rattle.instruction.specs.Walk as walk
 use Rattle.instruction.specs.Walk.{shownAs, fieldFrom, operandFrom, closed, constructorFrom, tableFrom, walkFrom, instructionOf}
 use Rattle.decoding.specs.Decoding.{decodeOf, rowsAfter}
+use Rattle.printing.specs.Numerals.{digitOf, digitsUpTo, digitsOf, signText, prefixText, numberText}
+use Rattle.printing.specs.Writing.{over}
+use Rattle.text.specs.Text as text
+use Rattle.text.specs.Text.{letters, pieceText, piecesText, constructorText, nameText, textsOf}
+use Rattle.text_decoding.specs.Texting.{decodeTextOf, textAfter}
 use Rattle.cases.specs.Cases as cases-of
-use Rattle.cases.specs.Cases.{Starred, leafZero, leafNone, same, allHold, asks, clashes, chosen, paired, bytes, rows, two, three, halves, chooses, pairs, decodes, cases, holds}
+use Rattle.cases.specs.Cases.{Starred, leafZero, leafNone, same, allHold, asks, clashes, chosen, paired, bytes, rows, two, three, halves, chooses, pairs, decodes, reads, cases, holds}
 
 -- what table 0 of S has: one pattern, of no masked bit
 module _ (at : ℕ → Pattern) (e : at 0 ≡ start) where
@@ -66,6 +71,8 @@ unfolding holds cases allHold same asks clashes chosen paired bytes rows two thr
     patternFrom askIn askOf clashIn clashAnswer formOf walkOf nodeOk leafOk kindAt bitAt placeAt
     cases-of.signedOf decodes valueOf ofBits sourceBit tokenByte lookOf numberOf signedOf rowsOf rowsOfAll numbersOf shownAs fieldFrom operandFrom
     walk.operandsFrom closed constructorFrom tableFrom walkFrom instructionOf decodeOf rowsAfter
+    reads digitOf digitsUpTo digitsOf signText prefixText numberText over letters pieceText piecesText constructorText nameText text.textOf textsOf
+    decodeTextOf textAfter
 cases-hold =
     record {
       computed = refl;

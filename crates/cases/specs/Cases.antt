@@ -20,6 +20,8 @@ use Rattle.clashing.specs.Entry as clashing
 use Rattle.clashing.specs.Entry.{clashAnswer}
 use Rattle.decoding.specs.Decoding as decoding
 use Rattle.decoding.specs.Decoding.{decodeOf, rowsAfter}
+use Rattle.text_decoding.specs.Texting as texting
+use Rattle.text_decoding.specs.Texting.{decodeTextOf, textAfter}
 use Rattle.tree_check.specs.Entry.{Answers}
 use Rattle.tree_check.specs.declared.Answer.the-variants.{Accepted, Rejected}
 
@@ -89,6 +91,11 @@ decodes n s =
     (decoding.numberOf (decodeOf S 0 s (4 * n)) ∷ decoding.valuesOf (decodeOf S 0 s (4 * n)))
     ++ signedOf (rowsAfter S 0 s (replicate (4 * n) (pos 0)))
 
+-- decoding S to text into so many lent bytes, 0 before: the answer, and the lent bytes afterwards
+unfoldable pub reads : ℕ → List ℕ → List ℕ
+reads n s =
+    (texting.numberOf (decodeTextOf S 0 s n) ∷ texting.valuesOf (decodeTextOf S 0 s n)) ++ textAfter S 0 s (replicate n 0)
+
 unfoldable pub cases : List Case
 cases =
     -- "1F: .. weight 8"; 13, 25 and 30 choose constructors 1 and 2 and none
@@ -140,6 +147,21 @@ cases =
     record { given = decodes 1 (0x25 ∷ []); said = 2 ∷ 1 ∷ 0 ∷ 0 ∷ 0 ∷ 0 ∷ 0 ∷ 0 ∷ 0 ∷ 0 ∷ 0 ∷ 0 ∷ 0 ∷ [] } ∷
     record { given = decodes 0 []; said = 2 ∷ 0 ∷ 0 ∷ 0 ∷ 0 ∷ [] } ∷
     record { given = decodes 0 (0x30 ∷ []); said = 3 ∷ 0 ∷ 1 ∷ 0 ∷ 0 ∷ [] } ∷
+    -- "13: .. "inc r3"", with two bytes more lent, which stay as they were
+    record { given = reads 8 (0x13 ∷ []); said = 0 ∷ 6 ∷ 0 ∷ 0 ∷ 0 ∷ 105 ∷ 110 ∷ 99 ∷ 32 ∷ 114 ∷ 51 ∷ 0 ∷ 0 ∷ [] } ∷
+    -- "1F: .. "halt""
+    record { given = reads 4 (0x1f ∷ []); said = 0 ∷ 4 ∷ 0 ∷ 0 ∷ 0 ∷ 104 ∷ 97 ∷ 108 ∷ 116 ∷ [] } ∷
+    -- the same with a byte less lent
+    record { given = reads 3 (0x1f ∷ []); said = 9 ∷ 0 ∷ 0 ∷ 0 ∷ 0 ∷ 0 ∷ 0 ∷ 0 ∷ [] } ∷
+    -- "25 FE: .. "add r5, -0x2""
+    record { given = reads 12 (0x25 ∷ 0xfe ∷ []); said = 0 ∷ 12 ∷ 0 ∷ 0 ∷ 0 ∷ 97 ∷ 100 ∷ 100 ∷ 32 ∷ 114 ∷ 53 ∷ 44 ∷ 32 ∷ 45 ∷ 48 ∷ 120 ∷ 50 ∷ [] } ∷
+    -- "25 80: -0x80; 25 7F: 0x7f"
+    record { given = reads 13 (0x25 ∷ 0x80 ∷ []); said = 0 ∷ 13 ∷ 0 ∷ 0 ∷ 0 ∷ 97 ∷ 100 ∷ 100 ∷ 32 ∷ 114 ∷ 53 ∷ 44 ∷ 32 ∷ 45 ∷ 48 ∷ 120 ∷ 56 ∷ 48 ∷ [] } ∷
+    record { given = reads 12 (0x25 ∷ 0x7f ∷ []); said = 0 ∷ 12 ∷ 0 ∷ 0 ∷ 0 ∷ 97 ∷ 100 ∷ 100 ∷ 32 ∷ 114 ∷ 53 ∷ 44 ∷ 32 ∷ 48 ∷ 120 ∷ 55 ∷ 102 ∷ [] } ∷
+    -- "25: 2, place 1. Empty: 2, place 0. 30: 3, place 0, table 1."
+    record { given = reads 1 (0x25 ∷ []); said = 2 ∷ 1 ∷ 0 ∷ 0 ∷ 0 ∷ 0 ∷ [] } ∷
+    record { given = reads 0 []; said = 2 ∷ 0 ∷ 0 ∷ 0 ∷ 0 ∷ [] } ∷
+    record { given = reads 0 (0x30 ∷ []); said = 3 ∷ 0 ∷ 1 ∷ 0 ∷ 0 ∷ [] } ∷
     []
 
 unfoldable pub holds : Bool

@@ -4,6 +4,9 @@ use clashing::Judged;
 use decoding::Decoded;
 use format::Checked;
 use instruction::Refusal;
+use sweeping::End;
+use sweeping::Swept;
+use text_decoding::Texted;
 use tree_check::Answer;
 ghost use mathlib.Core.Path.{_≡_};
 ghost use Rattle.format.specs.Check.{checkOf, numberOf, valuesOf};
@@ -15,6 +18,10 @@ ghost use Rattle.tree_check.specs.Entry.{Reported};
 ghost use Rattle.decoding.specs.Decoding as decoding;
 ghost use Rattle.decoding.specs.Decoding.{decodeOf, rowsAfter};
 ghost use Rattle.instruction.specs.Answers.{refusalNumber, refusalValues};
+ghost use Rattle.text_decoding.specs.Texting as texting;
+ghost use Rattle.text_decoding.specs.Texting.{decodeTextOf, textAfter};
+ghost use Rattle.sweeping.specs.Sweep as sweeping;
+ghost use Rattle.sweeping.specs.Sweep.{endNumber, sweepOf, sweepAfter};
 ghost use lib.ListN.{length};
 
 #[no_mangle]
@@ -200,6 +207,77 @@ pub extern "C" fn dookerand_decode(
         Decoded::NoRoom => {
             *values = [0, 0, 0, 0];
             9
+        }
+    }
+}
+
+#[no_mangle]
+pub extern "C" fn dookerand_text(
+    description: &[u8],
+    context: u32,
+    code: &[u8],
+    text: &mut [u8],
+    values: &mut [u64; 4],
+) -> u32
+    ensures { λ r. ⌜ (r ≡ texting.numberOf (decodeTextOf (now (description .entry)) context (now (code .entry)) (length (now (text .entry))))) × (now (values .exit) ≡ texting.valuesOf (decodeTextOf (now (description .entry)) context (now (code .entry)) (length (now (text .entry))))) ⌝ }
+    ensures { λ _. ⌜ now (text .exit) ≡ textAfter (now (description .entry)) context (now (code .entry)) (now (text .entry)) ⌝ }
+{
+    let texted = text_decoding::decode_text(description, context, code, text);
+    match texted {
+        Texted::Done(written) => {
+            *values = [written as u64, 0, 0, 0];
+            0
+        }
+        Texted::Malformed { section, record } => {
+            *values = [section as u64, record as u64, 0, 0];
+            1
+        }
+        Texted::Refused(refusal) => refuse(refusal, values),
+        Texted::Long => {
+            *values = [0, 0, 0, 0];
+            10
+        }
+        Texted::NoRoom => {
+            *values = [0, 0, 0, 0];
+            9
+        }
+    }
+}
+
+fn end_number(why: End) -> u64
+    ensures { λ r. ⌜ r ≡ endNumber why ⌝ }
+{
+    match why {
+        End::Used => 0,
+        End::Full => 1,
+        End::Short => 2,
+    }
+}
+
+#[no_mangle]
+pub extern "C" fn dookerand_sweep(
+    description: &[u8],
+    context: u32,
+    code: &[u8],
+    rows: &mut [i64],
+    values: &mut [u64; 4],
+) -> u32
+    ensures { λ r. ⌜ (r ≡ sweeping.numberOf (sweepOf (now (description .entry)) context (now (code .entry)) (length (now (rows .entry))))) × (now (values .exit) ≡ sweeping.valuesOf (sweepOf (now (description .entry)) context (now (code .entry)) (length (now (rows .entry))))) ⌝ }
+    ensures { λ _. ⌜ now (rows .exit) ≡ sweepAfter (now (description .entry)) context (now (code .entry)) (now (rows .entry)) ⌝ }
+{
+    let swept = sweeping::sweep(description, context, code, rows);
+    match swept {
+        Swept::Ended {
+            why,
+            rows: written,
+            next,
+        } => {
+            *values = [end_number(why), written as u64, next as u64, 0];
+            0
+        }
+        Swept::Malformed { section, record } => {
+            *values = [section as u64, record as u64, 0, 0];
+            1
         }
     }
 }

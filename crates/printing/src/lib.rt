@@ -30,7 +30,7 @@ pub fn put_bytes(src: &[u8], out: &mut [u8]) -> Printed
     Printed::Wrote(size)
 }
 
-fn digit(d: u8) -> u8
+pub fn digit(d: u8) -> u8
     requires { ⌜ d < 16 ⌝ }
     ensures { λ r. ⌜ r ≡ digitOf d ⌝ }
 {
@@ -115,5 +115,14 @@ pub fn put_number(value: i64, base: u8, out: &mut [u8]) -> Printed
     if value < 0 {
         at = put_before(b'-', at, &mut text);
     }
+    put_bytes(&text[at..], out)
+}
+
+// A decimal number without a sign.
+pub fn put_decimal(n: u64, out: &mut [u8]) -> Printed
+    ensures { λ r. ⌜ Puts (digitsOf 10 n) (now (out .entry)) (now (out .exit)) r ⌝ }
+{
+    let mut text = [0u8; 23];
+    let at = put_digits(n, 10, &mut text);
     put_bytes(&text[at..], out)
 }

@@ -2,3 +2,4 @@
 pub mod Text
 pub mod Places
 pub mod Adding
+pub mod Lines

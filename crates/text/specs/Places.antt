@@ -8,6 +8,8 @@ use lib.IntN.{ℤ, pos, natAbs}
 use lib.ListN.{length, getD, take}
 use Rattle.format.specs.Numbers.{mostRows}
 use Rattle.format.specs.Description.{Description, noField, noConstructor}
+use Rattle.format.specs.declared.Constructor.{Constructor}
+use Rattle.format.specs.declared.Piece.{Piece}
 use Rattle.fields.specs.Look.{lookOf}
 use Rattle.printing.specs.Numerals.{numberText}
 use Rattle.walking.specs.Scratch.{scratchNumbers, scratchLength}
@@ -33,6 +35,12 @@ sizeAt rows r = natAbs (cell rows r 4)
 unfoldable pub skip : List ℤ → ℕ → ℕ → ℕ
 skip rows r zero = r
 skip rows r (suc j) = skip rows (r + sizeAt rows r) j
+
+-- a piece of the constructor k can be shown: its bytes lie in the text, its operand is one of the constructor's
+pub record Showable (d : Description) (k : Constructor) (p : Piece) : Type 0 where
+  pub letters : p .kind ≡ 0 → p .offset + p .n ≤ length (d .text)
+  pub some : (p .kind ≡ 0 → ⊥) → 1 ≤ p .n
+  pub few : (p .kind ≡ 0 → ⊥) → p .n ≤ k .operands .count
 
 module _ (d : Description) (rows : List ℤ) where
   -- the text of the part at row r, nested so deep at most; a row's operands stand behind it, so one level more than there may be

@@ -6,7 +6,7 @@ use dookerand::Answer;
 use generate::{bytes, instruction_set, instruction_starts, Rng};
 use reference::Description;
 
-use crate::timing::{median, print, print_part, rounds, Job};
+use crate::timing::{median, print, print_part, rounds, Job, MANY};
 use crate::{proved_check, reference_check};
 
 pub const TABLE: u32 = 0;
@@ -78,7 +78,7 @@ impl Set {
             let taken = reference::ask(description, TABLE, CONTEXT, self.code(call));
             assert!(black_box(taken).is_ok());
         };
-        self.compare("ask", 100, [&proved, &whole, &proper]);
+        self.compare("ask", (MANY, 100), [&proved, &whole, &proper]);
     }
 
     fn clash(&self) {
@@ -94,18 +94,18 @@ impl Set {
             let clear = reference::clash(black_box(&self.description), TABLE);
             assert!(black_box(clear).is_ok());
         };
-        self.compare("clash", 3, [&proved, &whole, &proper]);
+        self.compare("clash", (MANY, 3), [&proved, &whole, &proper]);
     }
 
     /// Prints the times of a request on a description's bytes, of the check
     /// that it begins with, and of what is left; last beside the reference
     /// on the parsed description, which the cache then holds.
-    pub fn compare(&self, request: &str, calls: usize, jobs: [Job; 3]) {
+    pub fn compare(&self, request: &str, (count, calls): (usize, usize), jobs: [Job; 3]) -> Times {
         let [proved, whole, proper] = jobs;
         let check = |_| proved_check(&self.bytes);
         let other_check = |_| reference_check(&self.bytes);
         let [check, other_check, proved, whole, proper] =
-            rounds(calls, [&check, &other_check, proved, whole, proper]);
+            rounds(count, calls, [&check, &other_check, proved, whole, proper]);
         let rest = differences(&proved, &check);
         let other_rest = differences(&whole, &other_check);
         let constructors = self.description.constructors.len();
@@ -116,7 +116,18 @@ impl Set {
         print_part("  check's part of whole", median(&check) / median(&proved));
         print("  whole - check", median(&rest), median(&other_rest));
         print("  alone, parsed", median(&rest), median(&proper));
+        Times {
+            whole: [median(&proved), median(&whole)],
+            alone: [median(&rest), median(&proper)],
+        }
     }
+}
+
+/// Microseconds a call, proved and reference.
+pub struct Times {
+    pub whole: [f64; 2],
+    /// Without the check.
+    pub alone: [f64; 2],
 }
 
 /// What the longer job takes more, round by round.

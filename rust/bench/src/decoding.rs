@@ -7,14 +7,15 @@ use dookerand::Answer;
 use generate::{instruction_stream, nested_instruction_set, Rng};
 
 use crate::choosing::Set;
+use crate::timing::MANY;
 
-const CONTEXT: u32 = 1;
+pub const CONTEXT: u32 = 1;
 
 /// Numbers for the most rows.
 const LENT: usize = 128;
 
 pub fn all() {
-    let set = set();
+    let set = set(1000);
     let lent = RefCell::new([0; LENT]);
     let proved = |call| {
         let rows = &mut *black_box(lent.borrow_mut());
@@ -32,22 +33,22 @@ pub fn all() {
         let rows = reference::decode(description, CONTEXT, set.code(call));
         assert!(black_box(rows).is_ok());
     };
-    set.compare("decode", 100, [&proved, &whole, &alone]);
+    set.compare("decode", (MANY, 100), [&proved, &whole, &alone]);
 }
 
 pub fn one_decode() -> Answer {
     let mut rows = [0; LENT];
-    let set = set();
+    let set = set(1);
     dookerand::decode(black_box(&set.bytes), CONTEXT, set.code(0), &mut rows)
 }
 
 pub fn one_check() -> Answer {
-    dookerand::check(black_box(&set().bytes))
+    dookerand::check(black_box(&set(1).bytes))
 }
 
-/// A set with tables inside tables, and a stream of its instructions.
-fn set() -> Set {
+/// A set with tables inside tables, and a stream of so many instructions.
+pub fn set(instructions: usize) -> Set {
     let description = nested_instruction_set(200);
-    let stream = instruction_stream(&mut Rng::new(1), &description, CONTEXT, 1000);
+    let stream = instruction_stream(&mut Rng::new(1), &description, CONTEXT, instructions);
     Set::of(description, stream)
 }

@@ -5,11 +5,14 @@
 //! constructors, `bench one-clash` its clash check, `bench one-tree` the check
 //! of a tree of 4,095 nodes for it, and `bench one-check` the check of the
 //! description that those three begin with; `bench one-decode` decodes one
-//! instruction of a set of 200 constructors, and `bench one-decode-check` is
-//! the check that this begins with.
+//! instruction of a set of 200 constructors to rows, `bench one-text` to text,
+//! `bench one-sweep` sweeps 64 KiB of them, and `bench one-decode-check` is the
+//! check that these three begin with.
 
 mod choosing;
 mod decoding;
+mod sweep;
+mod text;
 mod timing;
 mod trees;
 
@@ -19,16 +22,18 @@ use dookerand::Answer;
 use generate::example::description_s;
 use generate::{bytes, longest};
 
-use timing::{median, print, rounds};
+use timing::{median, print, rounds, MANY};
 
 /// Requests that are made once.
-const ONES: [&str; 7] = [
+const ONES: [&str; 9] = [
     "one",
     "one-ask",
     "one-clash",
     "one-check",
     "one-tree",
     "one-decode",
+    "one-text",
+    "one-sweep",
     "one-decode-check",
 ];
 
@@ -41,6 +46,8 @@ fn main() {
         Some("one-check") => print_answer(choosing::one_check()),
         Some("one-tree") => print_answer(trees::one_tree()),
         Some("one-decode") => print_answer(decoding::one_decode()),
+        Some("one-text") => print_answer(text::one_text()),
+        Some("one-sweep") => print_answer(sweep::one_sweep()),
         Some("one-decode-check") => print_answer(decoding::one_check()),
         Some(_) => {
             eprintln!("usage: bench [{}]", ONES.join(" | "));
@@ -55,6 +62,8 @@ fn all() {
     choosing::all();
     trees::all();
     decoding::all();
+    text::all();
+    sweep::all();
 }
 
 fn print_answer(answer: Answer) {
@@ -64,7 +73,7 @@ fn print_answer(answer: Answer) {
 fn check(name: &str, description: &[u8], calls: usize) {
     let proved = |_| proved_check(description);
     let reference = |_| reference_check(description);
-    let [proved, reference] = rounds(calls, [&proved, &reference]);
+    let [proved, reference] = rounds(MANY, calls, [&proved, &reference]);
     let name = format!("check of {name}, {} bytes", description.len());
     print(&name, median(&proved), median(&reference));
 }

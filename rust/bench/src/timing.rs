@@ -2,16 +2,19 @@
 
 use std::time::Instant;
 
-// Many short ones, so that neighbours meet about the same disturbances.
-const ROUNDS: usize = 401;
+/// Many short rounds, so that neighbours meet about the same disturbances.
+pub const MANY: usize = 401;
+
+/// For calls that take long.
+pub const FEW: usize = 41;
 
 /// Something to time; it is given the number of the call.
 pub type Job<'a> = &'a dyn Fn(usize);
 
 /// Microseconds a call of each job, round by round; jobs take turns.
-pub fn rounds<const N: usize>(calls: usize, jobs: [Job; N]) -> [Vec<f64>; N] {
+pub fn rounds<const N: usize>(count: usize, calls: usize, jobs: [Job; N]) -> [Vec<f64>; N] {
     let mut times = [const { Vec::new() }; N];
-    for round in 0..ROUNDS {
+    for round in 0..count {
         for (job, times) in jobs.iter().zip(&mut times) {
             times.push(microseconds(round * calls, calls, job));
         }
@@ -37,6 +40,20 @@ pub fn median(times: &[f64]) -> f64 {
 pub fn print(name: &str, proved: f64, reference: f64) {
     let ratio = proved / reference;
     println!("{name}: proved {proved:.3} us, reference {reference:.3} us, ratio {ratio:.2}");
+}
+
+/// Prints both times of one of so many things that a call does, and their
+/// ratio.
+pub fn print_each(name: &str, count: usize, times: [f64; 2]) {
+    let [proved, reference] = times.map(|time| 1e3 * time / count as f64);
+    let ratio = proved / reference;
+    println!("{name}: proved {proved:.2} ns, reference {reference:.2} ns, ratio {ratio:.2}");
+}
+
+/// Prints how many of these things are done in a second.
+pub fn print_speed(name: &str, count: usize, times: [f64; 2]) {
+    let [proved, reference] = times.map(|time| 1e6 * count as f64 / time);
+    println!("{name}: proved {proved:.0}, reference {reference:.0}");
 }
 
 /// Prints which part of a proved call's time something takes.

@@ -5,7 +5,11 @@ mod agreed;
 mod check;
 mod choosing;
 mod decoding;
+mod instructions;
+mod lent;
+mod sweep;
 mod tally;
+mod text;
 mod trees;
 mod wrong_leaf;
 
@@ -29,6 +33,8 @@ fn main() {
     timed("ask and clash", || choosing::compare(&mut Rng::new(seed)));
     timed("tree check", || trees::compare(&mut Rng::new(seed)));
     timed("decode", || decoding::compare(&mut Rng::new(seed)));
+    timed("text", || text::compare(&mut Rng::new(seed)));
+    timed("sweep", || sweep::compare(&mut Rng::new(seed)));
 }
 
 fn timed(name: &str, compare: impl FnOnce()) {

@@ -51,6 +51,15 @@ impl Tally {
     }
 }
 
+/// Prints counts with their names, and stops if one is less than these.
+pub fn print_counts(title: &str, names: &[&str], counts: &[usize], least: usize) {
+    println!("{title}");
+    for (name, &count) in names.iter().zip(counts) {
+        println!("  {name:22}{count:>9}");
+        assert!(count >= least, "only {count} of \"{name}\"");
+    }
+}
+
 fn width(name: &str) -> usize {
     name.len().max(6) + 2
 }

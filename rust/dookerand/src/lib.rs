@@ -2,10 +2,14 @@
 
 mod choosing;
 mod decoding;
+mod sweep;
+mod text;
 mod trees;
 
 pub use choosing::{ask, clash};
 pub use decoding::decode;
+pub use sweep::sweep;
+pub use text::text;
 pub use trees::tree;
 
 mod c {

@@ -17,6 +17,7 @@ mod rng;
 mod row_counts;
 mod rules;
 mod tables;
+mod text_lengths;
 mod tree;
 mod tree_faults;
 mod tree_shapes;
@@ -33,11 +34,12 @@ pub use instruction_set::{
 pub use limits::{limits, Case};
 pub use longest::longest;
 pub use mutate::{change_bytes, change_counts, change_records, insert_or_remove, random_records};
-pub use planted::planted;
+pub use planted::{planted, planted_stream};
 pub use rng::Rng;
 pub use row_counts::with_rows;
 pub use rules::{rules, Rule};
 pub use tables::{meeting_tables, table_ranges};
+pub use text_lengths::{with_text, LONGEST_TEXT};
 pub use tree::{small_tree, tree, tree_bytes, tree_nodes, Node, NODE_LIMIT, NONE};
 pub use tree_faults::{
     any_node, repeated, tree_count_faults, Records, TreeRule, TREE_RULES, WHOLE_TREE,

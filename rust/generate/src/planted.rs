@@ -7,6 +7,9 @@ use crate::Rng;
 /// The most constructors that a walk is prepared for.
 const CONSTRUCTORS: usize = 33;
 
+/// The longest instruction.
+const INSTRUCTION: usize = 16;
+
 /// So many bytes of code, and a context: random ones, with the bits that a
 /// constructor of each table asks for at the place where a walk comes to it.
 /// Later ones may spoil what earlier ones need.
@@ -26,6 +29,22 @@ pub fn planted(rng: &mut Rng, d: &Description, length: usize) -> (Vec<u8>, u32) 
     };
     planting.table(d.root(), 0);
     (planting.code, planting.context)
+}
+
+/// So many bytes of code, and a context: planted instructions one behind the
+/// other in the context of the first, most of them whole.
+pub fn planted_stream(rng: &mut Rng, d: &Description, length: usize) -> (Vec<u8>, u32) {
+    let (mut stream, context) = (Vec::new(), planted(rng, d, 0).1);
+    while stream.len() < length {
+        let (code, _) = planted(rng, d, INSTRUCTION);
+        let end = match reference::decode(d, context, &code) {
+            Ok(rows) if !rng.once_in(8) => rows[0][3] as usize,
+            _ => rng.within(1..=INSTRUCTION),
+        };
+        stream.extend(&code[..end]);
+    }
+    stream.truncate(length);
+    (stream, context)
 }
 
 struct Planting<'a> {

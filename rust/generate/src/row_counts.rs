@@ -2,7 +2,7 @@
 
 use reference::{Constructor, Description, Field, Operand, Pattern};
 
-use crate::example::{field, name, operand};
+use crate::example::{field, name, operand, shown};
 use crate::write::bytes;
 use crate::Rng;
 
@@ -10,7 +10,7 @@ const LENGTH: usize = 16;
 
 /// A description that decodes any code of 16 bytes to so many rows (1 to 63),
 /// unless those are too many: each table has one constructor, which matches
-/// everything, and no name is a hole.
+/// everything and shows its operands, the last one first; no name is a hole.
 pub fn with_rows(rng: &mut Rng, rows: usize) -> Description {
     let mut d = Description {
         text: b"ab".to_vec(),
@@ -77,7 +77,7 @@ impl Tower<'_> {
         let mut operands = Vec::new();
         // Where the anchors stand: the start, then operand ends.
         let mut anchors = vec![0];
-        for rows in self.parts(rows - 1) {
+        for rows in parts(self.rng, rows - 1, self.widest) {
             let (operand, end) = self.operand(rows, room, &anchors);
             operands.push(operand);
             anchors.push(end);
@@ -87,35 +87,23 @@ impl Tower<'_> {
             true => self.rng.within(0..=room),
             false => 0,
         };
-        let first_operand = self.d.operands.len() as u16;
+        let count = operands.len() as u8;
         self.d.constructors.push(Constructor {
             table: self.tables.len() as u8,
             minimum_length: minimum as u8,
             pattern: Pattern::default(),
-            operand_count: operands.len() as u8,
-            first_operand,
-            piece_count: 0,
-            first_piece: 0,
+            operand_count: count,
+            first_operand: self.d.operands.len() as u16,
+            piece_count: count,
+            first_piece: self.d.pieces.len() as u16,
         });
         self.d.operands.extend(operands);
+        self.d.pieces.extend((1..=count).rev().map(shown));
         self.tables.push(Measure {
             rows,
             length: farthest.max(minimum),
         });
         self.tables.len() - 1
-    }
-
-    /// A number of rows for each operand, with this sum.
-    fn parts(&mut self, sum: usize) -> Vec<usize> {
-        if sum == 0 {
-            return Vec::new();
-        }
-        let mut parts = vec![1; self.rng.within(1..=self.widest.min(sum))];
-        for _ in parts.len()..sum {
-            let part = self.rng.below(parts.len());
-            parts[part] += 1;
-        }
-        parts
     }
 
     /// An operand of so many rows, and its end inside the room.
@@ -149,4 +137,17 @@ impl Tower<'_> {
         let end = anchors[anchor] + offset + length;
         (operand(kind, index as u8, anchor as u8, offset as u8), end)
     }
+}
+
+/// At most so many numbers above 0 with this sum.
+pub fn parts(rng: &mut Rng, sum: usize, most: usize) -> Vec<usize> {
+    if sum == 0 {
+        return Vec::new();
+    }
+    let mut parts = vec![1; rng.within(1..=most.min(sum))];
+    for _ in parts.len()..sum {
+        let part = rng.below(parts.len());
+        parts[part] += 1;
+    }
+    parts
 }

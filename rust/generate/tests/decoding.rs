@@ -1,10 +1,10 @@
 //! Descriptions and code for decoding.
 
 use generate::{
-    bytes, decodable, instruction_stream, nested_instruction_set, planted, table_ranges, with_rows,
-    Leaning, Rng, Size,
+    bytes, decodable, instruction_stream, nested_instruction_set, planted, planted_stream,
+    table_ranges, with_rows, with_text, Leaning, Rng, Size, LONGEST_TEXT,
 };
-use reference::{check, clash, decode, Clash, Refusal, Row};
+use reference::{check, clash, decode, decode_text, sweep, Clash, Refusal, Row};
 
 const CODE: usize = 20;
 
@@ -65,6 +65,40 @@ fn exact_row_counts() {
 }
 
 #[test]
+fn exact_text_lengths() {
+    let rng = &mut Rng::new(17);
+    for i in 0..3000 {
+        let length = i % 300;
+        let d = with_text(rng, length);
+        let (code, context) = planted(rng, &d, CODE);
+        match decode_text(&d, context, &code) {
+            Ok(text) => assert_eq!(text.len(), length),
+            Err(refusal) => {
+                assert_eq!(refusal, Refusal::TextTooLong);
+                assert!(length > 256);
+            }
+        }
+    }
+}
+
+/// Far longer texts than may be written come from instructions of few enough
+/// rows.
+#[test]
+fn long_texts() {
+    let rng = &mut Rng::new(18);
+    let mut most_constructors = 0;
+    for length in [257, 4_080, 65_536, 65_792, 100_000, LONGEST_TEXT] {
+        let d = with_text(rng, length);
+        let (code, context) = planted(rng, &d, CODE);
+        let rows = decode(&d, context, &code).unwrap();
+        most_constructors = most_constructors.max(constructors(&rows));
+        let too_long = Err(Refusal::TextTooLong);
+        assert_eq!(decode_text(&d, context, &code), too_long);
+    }
+    assert_eq!(most_constructors, 32);
+}
+
+#[test]
 fn a_nested_instruction_set_is_clear() {
     for constructors in [8, 200, 512] {
         let d = nested_instruction_set(constructors);
@@ -107,4 +141,24 @@ fn a_stream_of_instructions() {
         assert!(met > 180, "{met} constructors");
         assert!(taken[..6].iter().all(|&count| count > 100), "{taken:?}");
     }
+}
+
+/// A planted stream has gaps, but more instructions.
+#[test]
+fn planted_streams() {
+    let rng = &mut Rng::new(19);
+    let (mut done, mut gaps) = (0, 0);
+    for _ in 0..300 {
+        let d = decodable(rng, Size::SMALL, Leaning::Done);
+        let length = rng.within(0..=200);
+        let (code, context) = planted_stream(rng, &d, length);
+        assert_eq!(code.len(), length);
+        for row in sweep(&d, context, &code, length).rows {
+            match row[2] {
+                0 => done += 1,
+                _ => gaps += 1,
+            }
+        }
+    }
+    assert!(done > gaps && gaps > 500, "{done} {gaps}");
 }

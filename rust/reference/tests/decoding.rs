@@ -204,6 +204,31 @@ fn looks_orders_and_signs() {
     assert_eq!(shown_as(field(1, 4, 0, 0, 30, 0), &[0]), "1");
 }
 
+/// Pieces decide what is shown and in which order, and nothing else.
+#[test]
+fn shown_operands() {
+    let mut d = walk(vec![
+        operand(0, 0, 0, 0),
+        operand(1, 0, 1, 0),
+        operand(0, 1, 0, 0),
+    ]);
+    d.text = b"; ".to_vec();
+    d.pieces
+        .extend([shown(3), literal(0, 2), shown(2), literal(0, 1)]);
+    let shows = |first_piece, piece_count| {
+        let mut d = d.clone();
+        d.constructors[1].first_piece = first_piece;
+        d.constructors[1].piece_count = piece_count;
+        assert_eq!(answers(&d, &[5, 6]).unwrap().len(), 5);
+        assert_eq!(answers(&d, &[5]), Err(Refusal::Short { place: 1 }));
+        String::from_utf8(decode_text(&d, 7, &[5, 6]).unwrap()).unwrap()
+    };
+    assert_eq!(shows(1, 3), "567");
+    assert_eq!(shows(4, 4), "7; 6;");
+    assert_eq!(shows(4, 2), "7; ");
+    assert_eq!(shows(4, 0), "");
+}
+
 #[test]
 fn lent_buffers() {
     let s = generate::bytes(&generate::example::description_s());

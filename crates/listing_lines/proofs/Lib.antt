@@ -1,0 +1,4 @@
+-- Laws of the listing.
+mod Laying
+mod Showing
+pub mod Joined

@@ -1,0 +1,58 @@
+use Prim.Native.Nat.{ℕ, _-_}
+use mathlib.Core.Logic.{inl}
+use mathlib.Core.Path.{_≡_, refl}
+use native.Mathlib.Omega.{arith}
+use lib.ListN.{take, drop, length-drop, length-replicate}
+use lib.Seq.{take-all}
+use borrow.Author.Needs.{needs}
+use Rattle.printing.proofs.put_decimal.Statement.{statement}
+use Rattle.printing.proofs.put_decimal.Tie as tie
+use Rattle.printing.proofs.put_decimal.Reads as reads
+use Rattle.printing.proofs.put_decimal.Lts as lts
+use Rattle.printing.proofs.put_bytes.Reads as put-bytes-reads
+use Rattle.printing.proofs.put_digits.Reads as put-digits-reads
+
+-- src/lib.rt:126:9
+put-digits-requires : tie.Need-put-digits-requires
+put-digits-requires c κs = (length-replicate {A = ℕ} 23 0, inl refl)
+
+-- src/lib.rt:127:15
+sub-put-bytes : tie.Need-sub-put-bytes
+sub-put-bytes c = search needs
+
+-- src/lib.rt:127:15
+part-put-bytes-start : tie.Need-part-put-bytes-start
+part-put-bytes-start c = search needs
+
+-- src/lib.rt:127:15
+part-put-bytes-end : tie.Need-part-put-bytes-end
+part-put-bytes-end c = search needs
+
+-- src/lib.rt:127:5
+put-bytes-requires : tie.Need-put-bytes-requires
+put-bytes-requires c κs = search needs
+
+-- src/lib.rt:122:1
+same-length : tie.Need-same-length
+same-length c = search needs
+
+-- src/lib.rt:122:1
+returns : tie.Need-returns
+returns c =
+    let w = c .before .before .before .before .before .before .put-digits .ensures in
+    let text = c .before .before .before .before .before .before .put-digits .last .1 .1 .0 in
+    let at = c .before .before .before .before .before .before .put-digits .result in
+    let part : take (23 - at) (drop at text) ≡ drop at text = take-all (23 - at) (drop at text) (omega (arith, length-drop at text, w .long)) in
+    rw (part, w .is) at (c .before .before .put-bytes .ensures)
+
+pub put-decimal-spec : {M : Type 1} → statement M
+put-decimal-spec =
+    tie.close
+    (tie.spec
+    put-digits-requires
+    sub-put-bytes
+    part-put-bytes-start
+    part-put-bytes-end
+    put-bytes-requires
+    same-length
+    returns)

@@ -1,0 +1,4 @@
+-- Laws of the sweep.
+mod Places
+mod Turns
+pub mod Facts

@@ -1,0 +1,3 @@
+-- Laws of decoding to text.
+mod Answers
+pub mod Facts

@@ -1,0 +1,70 @@
+//! Requests on code that write into what they are lent.
+
+use std::fmt::Debug;
+
+use crate::agreed::{agreed, differ, hex};
+
+/// Elements on both sides of the lent ones.
+const MARGIN: usize = 4;
+
+/// What a request is made about.
+pub struct Given<'a> {
+    pub kind: &'static str,
+    pub description: &'a [u8],
+    pub context: u32,
+    pub code: &'a [u8],
+}
+
+/// Description, context, code and what is lent.
+type Request<T, A> = fn(&[u8], u32, &[u8], &mut [T]) -> A;
+
+/// What may be lent.
+pub trait Element: Copy + Debug + PartialEq {
+    /// What an element is before a call: neighbours differ, and no request
+    /// writes it.
+    fn untouched(index: usize) -> Self;
+}
+
+impl Element for i64 {
+    fn untouched(index: usize) -> i64 {
+        i64::MAX - index as i64
+    }
+}
+
+impl Element for u8 {
+    fn untouched(index: usize) -> u8 {
+        0x80 | index as u8
+    }
+}
+
+/// The number and values that both gave, with the lent elements. Compares all
+/// elements afterwards: those written, the lent ones behind them, and those
+/// around that are not lent.
+pub fn agreed_with_lent<T: Element>(
+    given: &Given,
+    lent: usize,
+    reference: Request<T, reference::Answer>,
+    library: Request<T, dookerand::Answer>,
+) -> (u32, [u64; 4], Vec<T>) {
+    let &Given {
+        kind,
+        description,
+        context,
+        code,
+    } = given;
+    let mut elements: Vec<T> = (0..MARGIN + lent + MARGIN).map(T::untouched).collect();
+    let mut expected_elements = elements.clone();
+    let of_lent = MARGIN..MARGIN + lent;
+    let expected_lent = &mut expected_elements[of_lent.clone()];
+    let expected = reference(description, context, code, expected_lent);
+    let answer = library(description, context, code, &mut elements[of_lent.clone()]);
+    let request = || format!("context {context:#x}, code {}, {lent} lent", hex(code));
+    let (number, values) = agreed(kind, request, description, &expected, answer);
+    if elements != expected_elements {
+        let [expected, found] = [&expected_elements, &elements].map(|all| format!("{all:?}"));
+        differ(kind, &request(), description, &expected, &found);
+    }
+    elements.truncate(of_lent.end);
+    elements.drain(..of_lent.start);
+    (number, values, elements)
+}
