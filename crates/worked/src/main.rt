@@ -2,6 +2,9 @@
 // and its values.
 use format::Checked;
 use libc::STDOUT_FILENO;
+use sweeping::End;
+use sweeping::Swept;
+use text_decoding::Texted;
 use tree_check::Answer;
 ghost use mathlib.Core.Path.{_≡_};
 ghost use lib.ListN.{length};
@@ -418,7 +421,82 @@ fn trees() {
     examine(b"its leaf for 1F changed to 1:", &changed);
 }
 
+// An instruction of S as text.
+fn read(name: &[u8], code: &[u8]) {
+    line(name);
+    let s = S;
+    let mut text = [0u8; 64];
+    let texted = text_decoding::decode_text(&s, 0, code, &mut text);
+    match texted {
+        Texted::Done(count) => {
+            number(0);
+            line(b" ");
+            if count <= 64 {
+                line(&text[..count]);
+            }
+        }
+        Texted::Malformed { section, record } => {
+            number(1);
+            number(section);
+            number(record);
+        }
+        Texted::Refused(_) => line(b" refused"),
+        Texted::Long => number(10),
+        Texted::NoRoom => number(9),
+    }
+    line(b"\n");
+}
+
+fn why_ended(why: End) {
+    match why {
+        End::Used => line(b" used"),
+        End::Full => line(b" full"),
+        End::Short => line(b" short"),
+    }
+}
+
+// A sweep of S over its example's code, with room for so many numbers at most 32: the end, the rows and the next byte.
+fn sweep_of(name: &[u8], room: usize) {
+    line(name);
+    let s = S;
+    let code = [0x13u8, 0x30, 0x1f, 0x25];
+    let mut rows = [0i64; 32];
+    if room <= 32 {
+        let swept = sweeping::sweep(&s, 0, &code, &mut rows[..room]);
+        match swept {
+            Swept::Ended {
+                why,
+                rows: written,
+                next,
+            } => {
+                why_ended(why);
+                number(written);
+                number(next);
+            }
+            Swept::Malformed { section, record } => {
+                number(1);
+                number(section);
+                number(record);
+            }
+        }
+    }
+    line(b"\n");
+}
+
+fn texts() {
+    read(b"25 00:", &[0x25, 0x00]);
+    read(b"13, code behind it:", &[0x13, 0x25, 0xfe]);
+}
+
+fn sweeps() {
+    sweep_of(b"13 30 1F 25, room for four rows:", 16);
+    sweep_of(b"13 30 1F 25, room for two rows and three numbers:", 11);
+    sweep_of(b"13 30 1F 25, no room:", 0);
+}
+
 fn main() {
     descriptions();
     trees();
+    texts();
+    sweeps();
 }
