@@ -7,11 +7,9 @@ use lib.IntN.{ℤ}
 use lib.ListN.{length, drop}
 use Rattle.format.specs.Numbers.{rowNumbers}
 use Rattle.format.specs.Check.{checkOf}
-use Rattle.format.specs.Description.{description}
-use Rattle.format.specs.declared.Checked.{Checked}
-use Rattle.format.specs.declared.Checked.the-variants.{Good, Fault}
 use Rattle.instruction.specs.Tree.{Node, rowsOf, numbersOf}
-use Rattle.instruction.specs.Walk.{Result, done, refused, instructionOf}
+use Rattle.instruction.specs.Walk.{Result, done, refused}
+use Rattle.instruction.specs.Entry.{answered}
 use Rattle.instruction.specs.Answers.{refusalNumber, refusalValues}
 use Rattle.decoding.specs.declared.Decoded.{Decoded}
 use Rattle.decoding.specs.declared.Decoded.the-variants.{Done, Malformed, Refused, NoRoom}
@@ -29,21 +27,13 @@ written old (done n l) =
     old
 written old (refused r) = old
 
-abbrev pub decodedBy : List ℕ → ℕ → List ℕ → ℕ → Checked → Decoded
-decodedBy b c s room (Good l) = told room (instructionOf (description b l) c s)
-decodedBy b c s room (Fault k i) = Malformed k i
-
-abbrev pub writtenBy : List ℕ → ℕ → List ℕ → List ℤ → Checked → List ℤ
-writtenBy b c s old (Good l) = written old (instructionOf (description b l) c s)
-writtenBy b c s old (Fault k i) = old
-
 -- bytes b as the description, context c, bytes s as the code, room for so many numbers
 unfoldable pub decodeOf : List ℕ → ℕ → List ℕ → ℕ → Decoded
-decodeOf b c s room = decodedBy b c s room (checkOf b)
+decodeOf b c s room = answered (λ d. told room) Malformed b c s (checkOf b)
 
 -- the lent numbers afterwards
 unfoldable pub rowsAfter : List ℕ → ℕ → List ℕ → List ℤ → List ℤ
-rowsAfter b c s old = writtenBy b c s old (checkOf b)
+rowsAfter b c s old = answered (λ d. written old) (λ k i. old) b c s (checkOf b)
 
 -- the answer's number in document 01's table ..
 abbrev pub numberOf : Decoded → ℕ

@@ -7,3 +7,4 @@ pub mod Rows
 pub mod Lying
 pub mod Shapes
 pub mod Choices
+pub mod Entries

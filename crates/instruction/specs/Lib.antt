@@ -2,5 +2,6 @@
 pub mod Tree
 pub mod Walk
 pub mod Answers
+pub mod Entry
 pub mod Usable
 pub mod Facts

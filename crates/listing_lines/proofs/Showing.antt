@@ -6,7 +6,6 @@ use mathlib.Core.Path.{_≡_, refl, sym, ap, subst, _∙_}
 use native.Mathlib.Omega.{arith}
 use lib.IntN.{ℤ}
 use lib.ListN.{length, getD, take, drop, length-drop}
-use lib.Seq.{take-all}
 use Rattle.format.specs.Numbers.{mostRows}
 use Rattle.format.specs.Description.{Description}
 use Rattle.format.proofs.Formation.{Obeyed}
@@ -25,10 +24,6 @@ use Rattle.listing_lines.specs.Listing.{isShort, refusedText, refusedNex
 use Rattle.listing_lines.specs.Lining.{Put, Moves}
 use Rattle.listing_lines.specs.declared.Place.{Place}
 use Rattle.listing_lines.specs.declared.Place.the-variants.{At, End}
-
--- the part of the code from a place on
-pub code-from : (s : List ℕ) (at : ℕ) → take (length s - at) (drop at s) ≡ drop at s
-code-from s at = take-all (length s - at) (drop at s) (omega (arith, length-drop at s))
 
 module _ (d : Description) (o : Obeyed d) (s : List ℕ) (at : ℕ) (part : List ℕ) (is : part ≡ drop at s) (w : Walked) (before scratch : List ℤ)
     (walks : WalksTo rowsOf (instructionOf d 0 part) w 0 before scratch) where

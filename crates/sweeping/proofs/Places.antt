@@ -5,7 +5,7 @@ use mathlib.Core.Path.{_≡_, refl, sym, ap, _∙_}
 use native.Mathlib.Omega.{arith}
 use lib.IntN.{ℤ, pos, natAbs}
 use lib.ListN.{length, getD, take, drop, length-drop}
-use lib.Seq.{take-all, getD-take}
+use lib.Seq.{getD-take}
 use Rattle.format.specs.Numbers.{sectionItself}
 use Rattle.format.specs.Description.{Description}
 use Rattle.format.proofs.Formation.{Obeyed}
@@ -24,10 +24,6 @@ use Rattle.walking.specs.declared.Walked.the-variants as walked
 use Rattle.walking.proofs.Steps.{WasDone, was-refused, was-done}
 use Rattle.sweeping.specs.Sweep.{rootNumber, gap, stepBy, stepAt}
 use Rattle.sweeping.specs.declared.Step.the-variants.{Row, Stop}
-
--- the part of the code from a place on
-pub code-from : (s : List ℕ) (at : ℕ) → take (length s - at) (drop at s) ≡ drop at s
-code-from s at = take-all (length s - at) (drop at s) (omega (arith, length-drop at s))
 
 -- the first row's number is the root's constructor
 first-number : (k l : ℕ) (f : Nodes) (n : Node) (u : ℕ) (scratch : List ℤ) → n ≡ built k 0 l f → u ≡ length (rowsOf n)

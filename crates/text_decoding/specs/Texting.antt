@@ -2,11 +2,10 @@
 use Prim.Native.Nat.{ℕ}
 use mathlib.Core.List.{List, [], _∷_}
 use Rattle.format.specs.Check.{checkOf}
-use Rattle.format.specs.Description.{Description, description}
-use Rattle.format.specs.declared.Checked.{Checked}
-use Rattle.format.specs.declared.Checked.the-variants.{Good, Fault}
+use Rattle.format.specs.Description.{Description}
 use Rattle.instruction.specs.Tree.{Node}
-use Rattle.instruction.specs.Walk.{Result, done, refused, instructionOf}
+use Rattle.instruction.specs.Walk.{Result, done, refused}
+use Rattle.instruction.specs.Entry.{answered}
 use Rattle.instruction.specs.Answers.{refusalNumber, refusalValues}
 use Rattle.text.specs.Text.{textOf}
 use Rattle.text.specs.Lines.{lineOf, lentAfter}
@@ -31,21 +30,13 @@ abbrev pub written : Description → List ℕ → Result Node → List ℕ
 written d old (done n l) = lentAfter (textOf d n) old
 written d old (refused r) = old
 
-abbrev pub textedBy : List ℕ → ℕ → List ℕ → ℕ → Checked → Texted
-textedBy b c s room (Good l) = told (description b l) room (instructionOf (description b l) c s)
-textedBy b c s room (Fault k i) = Malformed k i
-
-abbrev pub writtenBy : List ℕ → ℕ → List ℕ → List ℕ → Checked → List ℕ
-writtenBy b c s old (Good l) = written (description b l) old (instructionOf (description b l) c s)
-writtenBy b c s old (Fault k i) = old
-
 -- bytes b as the description, context c, bytes s as the code, room for so many bytes
 unfoldable pub decodeTextOf : List ℕ → ℕ → List ℕ → ℕ → Texted
-decodeTextOf b c s room = textedBy b c s room (checkOf b)
+decodeTextOf b c s room = answered (λ d. told d room) Malformed b c s (checkOf b)
 
 -- the lent bytes afterwards
 unfoldable pub textAfter : List ℕ → ℕ → List ℕ → List ℕ → List ℕ
-textAfter b c s old = writtenBy b c s old (checkOf b)
+textAfter b c s old = answered (λ d. written d old) (λ k i. old) b c s (checkOf b)
 
 -- the answer's number in document 01's table ..
 abbrev pub numberOf : Texted → ℕ

@@ -7,7 +7,8 @@ use native.Mathlib.Omega.{arith}
 use borrow.Author.Tests.{ltb-false, lt-ltb, le-ltb, le-leb, lt-leb, eq-eqb, ne-eqb}
 use lib.Dec.{ltb, leb, eqb}
 use lib.IntN.{ℤ, pos}
-use lib.ListN.{length, getD, take, drop, length-append}
+use lib.ListN.{length, getD, take, drop, length-drop}
+use lib.Seq.{take-all}
 use Rattle.format.specs.Numbers.{longest, mostRows}
 use Rattle.format.specs.Description.{Description, noName}
 use Rattle.format.specs.Rules.{bitsOf}
@@ -25,6 +26,10 @@ use Rattle.walking.specs.Walks.{WalksTo, Held, answerOf, Closes}
 use Rattle.walking.specs.declared.Walked.{Walked}
 use Rattle.walking.specs.declared.Walked.the-variants.{Done, Refused}
 use Rattle.walking.proofs.Putting.{put-before, put-behind}
+
+-- the part of the code from a place on
+pub code-from : (s : List ℕ) (at : ℕ) → take (length s - at) (drop at s) ≡ drop at s
+code-from s at = take-all (length s - at) (drop at s) (omega (arith, length-drop at s))
 
 module _ {A : Type 0} (rows : A → List Row) (result : Result A) (used : ℕ) (old new : List ℤ) where
   pub refuses : (r : Refusal) → result ≡ refused r → WalksTo rows result (Refused r) used old new

@@ -9,7 +9,7 @@ use borrow.Author.Tests.{lt-ltb, le-ltb, le-leb, lt-leb, eq-eqb, ne-eqb}
 use lib.Dec.{ltb, leb, eqb}
 use lib.IntN.{ℤ}
 use lib.ListN.{length, getD, take, drop, set, replicate, length-append, length-drop, length-set, getD-replicate, List·getD-eq-default, drop-of-length-le}
-use lib.Seq.{take-all, getD-set-same, getD-set-other}
+use lib.Seq.{getD-set-same, getD-set-other}
 use Rattle.format.specs.Numbers.{longest, mostRows, operandsEach}
 use Rattle.format.specs.Description.{Description, noField, noConstructor, noOperand}
 use Rattle.format.specs.Tables.{rootOf, tableFirst}
@@ -27,7 +27,7 @@ use Rattle.walking.specs.Scratch.{scratchNumbers, scratchLength, scratch
 use Rattle.walking.specs.Walks.{WalksTo, Within, Closes}
 use Rattle.walking.specs.declared.Walked.{Walked}
 use Rattle.walking.specs.declared.Walked.the-variants.{Done, Refused}
-use Rattle.walking.proofs.Steps.{refuses, finishes, was-refused, was-done, WasDone}
+use Rattle.walking.proofs.Steps.{code-from, refuses, finishes, was-refused, was-done, WasDone}
 
 pub scratch-append : (a b : List Row) → scratchOf (a ++ b) ≡ scratchOf a ++ scratchOf b
 unfolding scratchOf
@@ -159,7 +159,7 @@ module _ (d : Description) (c total first : ℕ) (s : List ℕ) (at count : ℕ)
 -- the part of the code from a start on; past the end that is no bytes
 part-from : (s : List ℕ) (start from : ℕ) → from ≡ min start (length s) → take (length s - from) (drop from s) ≡ drop start s
 part-from s start from e =
-    take-all (length s - from) (drop from s) (omega (arith, length-drop from s)) ∙ go (decLt start (length s))
+    code-from s from ∙ go (decLt start (length s))
   where
     go : Dec (start < length s) → drop from s ≡ drop start s
     go (yes p) = let z : from ≡ start = omega arith in rw z

@@ -2,8 +2,9 @@ use mathlib.Core.Path.{_≡_, refl, sym, ap, _∙_}
 use native.Mathlib.Omega.{arith}
 use Rattle.format.proofs.Formation.{obeyed}
 use Rattle.walking.specs.Walks.{Within}
+use Rattle.walking.proofs.Steps.{code-from}
 use Rattle.walking.specs.declared.Walked.the-variants.{Done}
-use Rattle.listing_lines.proofs.Showing.{code-from, shows-refusal, shows-text, scratch-sound, scratch-some}
+use Rattle.listing_lines.proofs.Showing.{shows-refusal, shows-text, scratch-sound, scratch-some}
 use borrow.Author.Needs.{needs}
 use Rattle.listing_lines.proofs.show.Statement.{statement}
 use Rattle.listing_lines.proofs.show.Tie as tie

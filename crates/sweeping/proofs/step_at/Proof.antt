@@ -1,7 +1,8 @@
 use mathlib.Core.Path.{refl, sym, ap, _∙_}
 use mir.Facts.{toZ-ofZ}
 use Rattle.format.proofs.Formation.{obeyed}
-use Rattle.sweeping.proofs.Places.{code-from, gives-gap, gives-row}
+use Rattle.sweeping.proofs.Places.{gives-gap, gives-row}
+use Rattle.walking.proofs.Steps.{code-from}
 use borrow.Author.Needs.{needs}
 use Rattle.sweeping.proofs.step_at.Statement.{statement}
 use Rattle.sweeping.proofs.step_at.Tie as tie
