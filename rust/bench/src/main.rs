@@ -1,4 +1,5 @@
-//! Times the proved library beside the reference.
+//! Times the proved library beside the reference: one table, and AVR code
+//! beside other disassemblers. `bench details` says more about some requests.
 //!
 //! `bench one` makes exactly one proved check of the longest description,
 //! for counting instructions; `bench one-ask` one question to a table of 512
@@ -7,11 +8,16 @@
 //! description that those three begin with; `bench one-decode` decodes one
 //! instruction of a set of 200 constructors to rows, `bench one-text` to text,
 //! `bench one-sweep` sweeps 64 KiB of them, and `bench one-decode-check` is the
-//! check that these three begin with.
+//! check that these three begin with; `bench one-avr-sweep` sweeps 64 KiB of
+//! AVR code.
 
 mod choosing;
 mod decoding;
+mod processes;
+mod speed;
+mod subjects;
 mod sweep;
+mod table;
 mod text;
 mod timing;
 mod trees;
@@ -25,7 +31,7 @@ use generate::{bytes, longest};
 use timing::{median, print, rounds, MANY};
 
 /// Requests that are made once.
-const ONES: [&str; 9] = [
+const ONES: [&str; 10] = [
     "one",
     "one-ask",
     "one-clash",
@@ -35,11 +41,13 @@ const ONES: [&str; 9] = [
     "one-text",
     "one-sweep",
     "one-decode-check",
+    "one-avr-sweep",
 ];
 
 fn main() {
     match std::env::args().nth(1).as_deref() {
-        None => all(),
+        None => overview(),
+        Some("details") => details(),
         Some("one") => print_answer(dookerand::check(black_box(&bytes(&longest())))),
         Some("one-ask") => print_answer(choosing::one_ask()),
         Some("one-clash") => print_answer(choosing::one_clash()),
@@ -48,15 +56,23 @@ fn main() {
         Some("one-decode") => print_answer(decoding::one_decode()),
         Some("one-text") => print_answer(text::one_text()),
         Some("one-sweep") => print_answer(sweep::one_sweep()),
+        Some("one-avr-sweep") => print_answer(sweep::one_avr_sweep()),
         Some("one-decode-check") => print_answer(decoding::one_check()),
         Some(_) => {
-            eprintln!("usage: bench [{}]", ONES.join(" | "));
+            eprintln!("usage: bench [details | {}]", ONES.join(" | "));
             std::process::exit(2);
         }
     }
 }
 
-fn all() {
+fn overview() {
+    table::print();
+    speed::print();
+    let cores = std::thread::available_parallelism().map_or(1, usize::from);
+    println!("{cores} cores; every time is the median of rounds in which the jobs take turns.");
+}
+
+fn details() {
     check("longest", &bytes(&longest()), 10);
     check("S", &bytes(&description_s()), 5_000);
     choosing::all();

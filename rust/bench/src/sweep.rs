@@ -7,10 +7,11 @@ use dookerand::Answer;
 
 use crate::choosing::Set;
 use crate::decoding::{set, CONTEXT};
+use crate::subjects::avr;
 use crate::timing::{print_each, print_speed, FEW};
 
 /// Bytes of code.
-const CODE: usize = 64 * 1024;
+pub const CODE: usize = 64 * 1024;
 
 const ROW_NUMBERS: usize = 4;
 
@@ -48,6 +49,13 @@ pub fn one_sweep() -> Answer {
     let mut rows = vec![0; ROW_NUMBERS * CODE];
     let set = set(CODE);
     dookerand::sweep(black_box(&set.bytes), CONTEXT, code(&set), &mut rows)
+}
+
+pub fn one_avr_sweep() -> Answer {
+    let mut rows = vec![0; ROW_NUMBERS * CODE];
+    let avr = avr(CODE);
+    let code = code(&avr.set);
+    dookerand::sweep(black_box(&avr.set.bytes), avr.context, code, &mut rows)
 }
 
 /// As much of the stream as is swept.

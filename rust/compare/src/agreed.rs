@@ -25,11 +25,16 @@ pub fn differ(kind: &str, request: &str, description: &[u8], expected: &str, fou
     println!("difference at \"{kind}\": {request}");
     println!("reference {expected}");
     println!("library   {found}");
-    println!("description, {} bytes:", description.len());
-    for line in description.chunks(32) {
+    print_bytes("description", description);
+    std::process::exit(1);
+}
+
+/// Prints bytes in lines of 32.
+pub fn print_bytes(name: &str, bytes: &[u8]) {
+    println!("{name}, {} bytes:", bytes.len());
+    for line in bytes.chunks(32) {
         println!("{}", hex(line));
     }
-    std::process::exit(1);
 }
 
 pub fn hex(bytes: &[u8]) -> String {

@@ -1,12 +1,15 @@
-//! Compares the proved library with the reference on generated input, which
-//! depends on the seed alone. It stops at the first difference.
+//! Compares the proved library and the listing program with the reference on
+//! generated input, which depends on the seed alone. It stops at the first
+//! difference.
 
 mod agreed;
+mod avr;
 mod check;
 mod choosing;
 mod decoding;
 mod instructions;
 mod lent;
+mod listing;
 mod sweep;
 mod tally;
 mod text;
@@ -28,6 +31,7 @@ fn main() {
             std::process::exit(2);
         }
     };
+    let program = listing::program();
     println!("seed {seed}");
     timed("check", || check::compare(&mut Rng::new(seed)));
     timed("ask and clash", || choosing::compare(&mut Rng::new(seed)));
@@ -35,6 +39,10 @@ fn main() {
     timed("decode", || decoding::compare(&mut Rng::new(seed)));
     timed("text", || text::compare(&mut Rng::new(seed)));
     timed("sweep", || sweep::compare(&mut Rng::new(seed)));
+    timed("AVR", avr::compare);
+    timed("listing", || {
+        listing::compare(&mut Rng::new(seed), &program)
+    });
 }
 
 fn timed(name: &str, compare: impl FnOnce()) {

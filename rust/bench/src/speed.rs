@@ -1,0 +1,88 @@
+//! AVR code: bytes a second, beside other disassemblers on the same code.
+
+use std::cell::RefCell;
+use std::hint::black_box;
+
+use generate::bytes;
+
+use crate::processes::{cstool, listing, objdump};
+use crate::subjects::{any_instructions, avr_description};
+use crate::timing::{median, rounds_of, Job};
+
+/// Bytes of code.
+const CODE: usize = 1024 * 1024;
+
+/// For runs of a second or more.
+const ROUNDS: usize = 5;
+
+/// Of the checks that texts begin with, one in so many is timed.
+const CHECKS: usize = 16;
+
+const CONTEXT: u32 = 0;
+
+const ROW_NUMBERS: usize = 4;
+const TEXT: usize = 256;
+
+pub fn print() {
+    let d = avr_description();
+    let description = bytes(&d);
+    let (code, starts) = any_instructions(&d, CODE);
+    let (size, instructions) = (code.len(), starts.len());
+    let lent = RefCell::new(vec![0; ROW_NUMBERS * instructions]);
+    let sweep = |_| {
+        let rows = &mut *black_box(lent.borrow_mut());
+        let answer = dookerand::sweep(black_box(&description), CONTEXT, black_box(&code), rows);
+        let all = [0, instructions as u64, size as u64, 0];
+        assert_eq!((black_box(answer).number, answer.values), (0, all));
+    };
+    let reference_sweep = |_| {
+        let swept = reference::sweep(black_box(&d), CONTEXT, black_box(&code), instructions);
+        assert_eq!(black_box(swept).rows.len(), instructions);
+    };
+    let texts = |call| {
+        sweep(call);
+        let mut text = [0; TEXT];
+        for row in lent.borrow().chunks(ROW_NUMBERS) {
+            let rest = &code[row[0] as usize..];
+            let answer = dookerand::text(black_box(&description), CONTEXT, rest, &mut text);
+            assert_eq!(black_box(answer).number, 0);
+            black_box(&text);
+        }
+    };
+    let checks = |_| {
+        for _ in 0..instructions / CHECKS {
+            let answer = dookerand::check(black_box(&description));
+            assert_eq!(black_box(answer).number, 0);
+        }
+    };
+    let others = [
+        listing(&description, &code, &starts),
+        objdump(&code),
+        cstool(size),
+    ];
+    let found = || others.iter().flatten();
+    let run: Vec<_> = found().map(|program| |_| program.run()).collect();
+    let mut jobs: Vec<Job> = vec![&sweep, &reference_sweep, &texts, &checks];
+    jobs.extend(run.iter().map(|run| run as Job));
+    let times = rounds_of(ROUNDS, 1, &jobs);
+    let times: Vec<f64> = times.iter().map(|times| median(times)).collect();
+    let line = |name: &str, time: f64, writes: &str| {
+        let speed = size as f64 / time;
+        println!("{name:24}{:>10.1}{speed:>8.2}  {writes}", time / 1e3);
+    };
+    println!("AVR, {size} bytes of any opcodes that decode, {instructions} instructions");
+    println!("                                ms    MB/s  writes");
+    line("proved sweep", times[0], "rows");
+    line("reference sweep", times[1], "rows");
+    let by_calls = "rows, then each text by a call, which checks the description";
+    line("proved sweep and texts", times[2], by_calls);
+    let without_checks = times[2] - CHECKS as f64 * times[3];
+    line("  without those checks", without_checks, "the same");
+    for (program, &time) in found().zip(&times[4..]) {
+        line(program.name, time, &program.writes);
+    }
+    for why in others.iter().filter_map(|other| other.as_ref().err()) {
+        println!("{why}");
+    }
+    println!("Programs are timed from start to end; what they write is thrown away.");
+}
