@@ -227,28 +227,18 @@ impl<R: Request> Instructions<'_, R> {
         }
     }
 
-    fn base(&mut self) -> Description {
-        let leaning = self.rng.pick(&Leaning::ALL);
-        decodable(self.rng, SMALL, leaning)
-    }
-
     /// The description's fault comes before all else.
     fn broken_rules(&mut self) {
         self.kind = "one rule broken";
-        for (_, break_rule) in rules() {
-            for _ in 0..100 {
-                let d = self.base();
-                let mut broken = d.clone();
-                break_rule(&mut broken, self.rng);
-                self.changed_description(&d, &bytes(&broken));
-            }
+        for (d, broken) in broken(self.rng, 100) {
+            self.changed_description(&d, &broken);
         }
     }
 
     fn changed(&mut self, kind: &'static str, change: fn(&Description, &mut Rng) -> Vec<u8>) {
         self.kind = kind;
         for _ in 0..6_000 {
-            let d = self.base();
+            let d = base(self.rng);
             for _ in 0..5 {
                 let changed = change(&d, self.rng);
                 self.changed_description(&d, &changed);
@@ -261,4 +251,25 @@ impl<R: Request> Instructions<'_, R> {
         let (code, context) = self.some_code(before);
         self.lent(changed, context, &code);
     }
+}
+
+/// A small description that decodes some code.
+pub fn base(rng: &mut Rng) -> Description {
+    let leaning = rng.pick(&Leaning::ALL);
+    decodable(rng, SMALL, leaning)
+}
+
+/// Small descriptions, each with the bytes of one that breaks a rule, so many
+/// for each rule.
+pub fn broken(rng: &mut Rng, each: usize) -> Vec<(Description, Vec<u8>)> {
+    let mut pairs = Vec::new();
+    for (_, break_rule) in rules() {
+        for _ in 0..each {
+            let d = base(rng);
+            let mut broken = d.clone();
+            break_rule(&mut broken, rng);
+            pairs.push((d, bytes(&broken)));
+        }
+    }
+    pairs
 }

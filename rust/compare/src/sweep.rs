@@ -3,11 +3,11 @@
 use generate::example::{description_s, full_featured};
 use generate::{
     bytes, change_bytes, change_records, code, context, decodable, insert_or_remove, longest,
-    planted_stream, rules, well_formed, with_rows, with_text, Leaning, Rng, Size,
+    planted_stream, well_formed, with_rows, with_text, Leaning, Rng, Size,
 };
 use reference::{requests, Description};
 
-use crate::instructions::{MIDDLE, SMALL};
+use crate::instructions::{base, broken, MIDDLE, SMALL};
 use crate::lent::{agreed_with_lent, Given};
 use crate::tally::{print_counts, Tally};
 
@@ -197,28 +197,18 @@ impl Sweeping<'_> {
         }
     }
 
-    fn base(&mut self) -> Description {
-        let leaning = self.rng.pick(&Leaning::ALL);
-        decodable(self.rng, SMALL, leaning)
-    }
-
     /// The description's fault comes before all else.
     fn broken_rules(&mut self) {
         self.kind = "one rule broken";
-        for (_, break_rule) in rules() {
-            for _ in 0..40 {
-                let d = self.base();
-                let mut broken = d.clone();
-                break_rule(&mut broken, self.rng);
-                self.changed_description(&d, &bytes(&broken));
-            }
+        for (d, broken) in broken(self.rng, 40) {
+            self.changed_description(&d, &broken);
         }
     }
 
     fn changed(&mut self, kind: &'static str, change: fn(&Description, &mut Rng) -> Vec<u8>) {
         self.kind = kind;
         for _ in 0..3_000 {
-            let d = self.base();
+            let d = base(self.rng);
             let changed = change(&d, self.rng);
             self.changed_description(&d, &changed);
         }

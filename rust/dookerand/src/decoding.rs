@@ -1,6 +1,6 @@
 //! Decoding one instruction to rows.
 
-use crate::{answer, Answer};
+use crate::{lend, Answer};
 
 mod c {
     extern "C" {
@@ -22,21 +22,6 @@ mod c {
 /// to 9. A refusal leaves the lent numbers as they were, and so does 0 those
 /// behind its rows.
 pub fn decode(description: &[u8], context: u32, code: &[u8], rows: &mut [i64]) -> Answer {
-    answer(|values| {
-        // SAFETY: slices give readable ranges and, empty too, no null
-        // pointers; the call writes the four values and numbers of `rows`,
-        // which as a mutable slice overlaps no other.
-        unsafe {
-            c::dookerand_decode(
-                description.as_ptr(),
-                description.len(),
-                context,
-                code.as_ptr(),
-                code.len(),
-                rows.as_mut_ptr(),
-                rows.len(),
-                values,
-            )
-        }
-    })
+    // SAFETY: the call writes numbers of `rows` and the four values alone.
+    unsafe { lend(c::dookerand_decode, description, context, code, rows) }
 }

@@ -46,3 +46,46 @@ fn answer(call: impl FnOnce(*mut u64) -> u32) -> Answer {
     let number = call(values.as_mut_ptr());
     Answer { number, values }
 }
+
+/// A function of the C face that decodes code into lent numbers or bytes.
+type Decoding<T> = unsafe extern "C" fn(
+    description: *const u8,
+    description_len: usize,
+    context: u32,
+    code: *const u8,
+    code_len: usize,
+    lent: *mut T,
+    lent_len: usize,
+    values: *mut u64,
+) -> u32;
+
+/// Calls with a lent part.
+///
+/// # Safety
+///
+/// The call reads the description and the code alone, and writes the lent part
+/// and the four values alone.
+unsafe fn lend<T>(
+    call: Decoding<T>,
+    description: &[u8],
+    context: u32,
+    code: &[u8],
+    lent: &mut [T],
+) -> Answer {
+    answer(|values| {
+        // SAFETY: slices give readable ranges and, empty too, no null
+        // pointers; a mutable slice overlaps no other.
+        unsafe {
+            call(
+                description.as_ptr(),
+                description.len(),
+                context,
+                code.as_ptr(),
+                code.len(),
+                lent.as_mut_ptr(),
+                lent.len(),
+                values,
+            )
+        }
+    })
+}

@@ -1,6 +1,6 @@
 //! Sweeping a code buffer.
 
-use crate::{answer, Answer};
+use crate::{lend, Answer};
 
 mod c {
     extern "C" {
@@ -23,21 +23,6 @@ mod c {
 /// and root constructor. Whatever the end, lent numbers behind the rows stay as
 /// they were.
 pub fn sweep(description: &[u8], context: u32, code: &[u8], rows: &mut [i64]) -> Answer {
-    answer(|values| {
-        // SAFETY: slices give readable ranges and, empty too, no null
-        // pointers; the call writes the four values and numbers of `rows`,
-        // which as a mutable slice overlaps no other.
-        unsafe {
-            c::dookerand_sweep(
-                description.as_ptr(),
-                description.len(),
-                context,
-                code.as_ptr(),
-                code.len(),
-                rows.as_mut_ptr(),
-                rows.len(),
-                values,
-            )
-        }
-    })
+    // SAFETY: the call writes numbers of `rows` and the four values alone.
+    unsafe { lend(c::dookerand_sweep, description, context, code, rows) }
 }

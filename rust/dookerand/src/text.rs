@@ -1,6 +1,6 @@
 //! Decoding one instruction to text.
 
-use crate::{answer, Answer};
+use crate::{lend, Answer};
 
 mod c {
     extern "C" {
@@ -22,21 +22,6 @@ mod c {
 /// suffice. A refusal leaves the lent bytes as they were, and so does 0 those
 /// behind its text.
 pub fn text(description: &[u8], context: u32, code: &[u8], text: &mut [u8]) -> Answer {
-    answer(|values| {
-        // SAFETY: slices give readable ranges and, empty too, no null
-        // pointers; the call writes the four values and bytes of `text`,
-        // which as a mutable slice overlaps no other.
-        unsafe {
-            c::dookerand_text(
-                description.as_ptr(),
-                description.len(),
-                context,
-                code.as_ptr(),
-                code.len(),
-                text.as_mut_ptr(),
-                text.len(),
-                values,
-            )
-        }
-    })
+    // SAFETY: the call writes bytes of `text` and the four values alone.
+    unsafe { lend(c::dookerand_text, description, context, code, text) }
 }
