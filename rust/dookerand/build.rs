@@ -13,4 +13,6 @@ fn main() {
     println!("cargo:rerun-if-changed={}", library.display());
     println!("cargo:rustc-link-search=native={}", directory.display());
     println!("cargo:rustc-link-lib=static=dookerand");
+    // For the test of the header.
+    println!("cargo:rustc-env=DOOKERAND_LIBRARY={}", library.display());
 }

@@ -67,6 +67,10 @@ rowNumbers = 4
 abbrev pub longestText : ℕ
 longestText = 256
 
+-- a sweep's rows: "rows of four 64-bit numbers"
+abbrev pub sweepNumbers : ℕ
+sweepNumbers = 4
+
 -- "that section's fault with record 65,535"
 abbrev pub sectionItself : ℕ
 sectionItself = 65535

@@ -44,12 +44,15 @@ pub const PIECES_EACH: u8 = 16;
 
 pub const FARTHEST: u8 = 15;
 
-// An instruction's rows at most, the numbers of a row, and the bytes of a text at most.
+// An instruction's rows at most, the numbers of one, and the bytes of a text at most.
 pub const ROWS: usize = 32;
 
 pub const ROW_NUMBERS: usize = 4;
 
 pub const TEXT: usize = 256;
+
+// The numbers of a sweep's row.
+pub const SWEEP_NUMBERS: usize = 4;
 
 // The record number of a fault that is a section's own.
 pub const SECTION: usize = 65535;

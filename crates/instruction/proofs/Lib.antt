@@ -7,4 +7,5 @@ pub mod Rows
 pub mod Lying
 pub mod Shapes
 pub mod Choices
+pub mod Refusals
 pub mod Entries

@@ -10,10 +10,13 @@ use Rattle.format.specs.Numbers.{longest, mostRows}
 use Rattle.format.specs.Description.{Description, noField, noConstructor}
 use Rattle.format.specs.Rules.{tableAt}
 use Rattle.format.specs.Tables.{tableFirst}
+use Rattle.choice.specs.declared.Choice.the-variants as choice
 use Rattle.choice.specs.declared.Choice.the-variants.{Taken}
 use Rattle.choosing.specs.Table.{chooseIn}
 use Rattle.instruction.specs.Tree.{Row, Node, Nodes, built, numbered, named, none, more, rowsOf}
 use Rattle.instruction.specs.Walk.{widthOf}
+use Rattle.instruction.specs.declared.Refusal.{Refusal}
+use Rattle.instruction.specs.declared.Refusal.the-variants.{Short, NoMatch, Ambiguous, Hole, Far, ManyRows, Empty}
 
 -- every row of a list
 abbrev pub Each : (Row → Type 0) → List Row → Type 0
@@ -28,6 +31,16 @@ pub record Chosen (d : Description) (c : ℕ) (s : List ℕ) (r : Row) : Type 0 
 
 abbrev pub ChosenRow : Description → ℕ → List ℕ → Row → Type 0
 ChosenRow d c s r = r .kind ≡ 0 → Chosen d c s r
+
+-- answers 3 and 4 are what choosing says in the table that they name, for the input's bytes from their place on
+abbrev pub ChoiceRefused : Description → ℕ → List ℕ → Refusal → Type 0
+ChoiceRefused d c s (NoMatch p t) = chooseIn d t (drop p s) c ≡ choice.NoMatch
+ChoiceRefused d c s (Ambiguous p t) = chooseIn d t (drop p s) c ≡ choice.Ambiguous
+ChoiceRefused d c s (Short p) = Unit {0}
+ChoiceRefused d c s (Hole p) = Unit {0}
+ChoiceRefused d c s (Far p) = Unit {0}
+ChoiceRefused d c s ManyRows = Unit {0}
+ChoiceRefused d c s Empty = Unit {0}
 
 -- where a row ends: a constructor by its length, a field by its width
 abbrev pub endOf : Description → Row → ℕ

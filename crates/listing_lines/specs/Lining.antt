@@ -1,13 +1,18 @@
 -- What the functions of the listing say of their answers.
-use Prim.Native.Nat.{ℕ, _-_, _≤_, _<_}
+use Prim.Native.Nat.{ℕ, _+_, _-_, _≤_, _<_}
 use mathlib.Core.List.{List}
 use mathlib.Core.Path.{_≡_}
 use lib.ListN.{length, take, drop}
+use Rattle.format.specs.Numbers.{longestText}
 use Rattle.printing.specs.Writing.{over}
 use Rattle.listing_lines.specs.Listing.{mostCode, descriptionPart, codePart}
 use Rattle.listing_lines.specs.declared.Place.{Place}
 use Rattle.listing_lines.specs.declared.Place.the-variants.{At, End}
 use Rattle.listing_lines.specs.declared.Split.{Split}
+
+-- room for the longest line: eight digits, a colon and a blank, a text, the line's end
+abbrev pub lineBytes : ℕ
+lineBytes = 8 + 2 + longestText + 1
 
 -- the two parts of the input lie one behind the other
 pub record Splits (input : List ℕ) (r : Split) : Type 0 where

@@ -17,7 +17,7 @@ ghost use Rattle.printing.specs.Numerals.{digitOf, digitsOf};
 ghost use Rattle.printing.specs.Writing.{over};
 ghost use Rattle.listing_lines.specs.Listing.{mostCode, hexDigits, byteText, isShort, refusedText, refusedNext, fitting, shownAt, nextAt, lineOf, lineAt, faultLine};
 ghost use Rattle.text.specs.Places.{textAt, Sound};
-ghost use Rattle.listing_lines.specs.Lining.{Splits, Put, Moves};
+ghost use Rattle.listing_lines.specs.Lining.{lineBytes, Splits, Put, Moves};
 
 // The description is input[start..end], the code input[end..last].
 pub struct Split {
@@ -38,12 +38,13 @@ pub struct Listed {
     pub next: Place,
 }
 
-// The bytes of code that are listed at most, those of the whole input, and those of a line at most.
+// The bytes of code that are listed at most; of the whole input: the length's two, a description's, the code's; and of a line: the
+// address, a colon, a blank, a text and the line's end.
 pub const CODE: usize = 4096;
 
-pub const INPUT: usize = 69633;
+pub const INPUT: usize = 2 + 65535 + CODE;
 
-pub const LINE: usize = 267;
+pub const LINE: usize = 8 + 2 + format::TEXT + 1;
 
 fn smaller(a: usize, b: usize) -> usize
     ensures { λ r. ⌜ r ≡ min a b ⌝ }
@@ -159,7 +160,7 @@ fn byte_text(byte: u8) -> [u8; 10]
 
 // A place that gives no instruction.
 fn show_refusal(refusal: Refusal, byte: u8, at: usize, out: &mut [u8]) -> Listed
-    requires { ⌜ (10 ≤ length (now out)) × (at < 4096) ⌝ }
+    requires { ⌜ (10 ≤ length (now out)) × (at < mostCode) ⌝ }
     ensures { λ r. ⌜ Put (refusedText byte refusal) (now (out .entry)) (now (out .exit)) (r .size) × (r .next ≡ refusedNext at refusal) ⌝ }
 {
     if is_short(refusal) {
@@ -228,7 +229,7 @@ pub fn next_line(
     requires { ⌜ Formed (now desc) layout ⌝ }
     requires { ⌜ Starts (description (now desc) layout) (now starts) ⌝ }
     requires { ⌜ (at < length (now code)) × (length (now code) ≤ mostCode) ⌝ }
-    requires { ⌜ (length (now scratch) ≡ scratchLength) × (length (now line) ≡ 267) ⌝ }
+    requires { ⌜ (length (now scratch) ≡ scratchLength) × (length (now line) ≡ lineBytes) ⌝ }
     ensures { λ r. ⌜ Put (lineAt (description (now (desc .entry)) layout) (now (code .entry)) at) (now (line .entry)) (now (line .exit)) (r .size) ⌝ }
     ensures { λ r. ⌜ (r .next ≡ nextAt (description (now (desc .entry)) layout) (now (code .entry)) at) × Moves at (length (now (code .entry))) (r .next) ⌝ }
 {
@@ -254,7 +255,7 @@ fn append_number(n: usize, out: &mut [u8], at: usize) -> usize
 
 // The one line of a bad description.
 pub fn fault_line(section: usize, number: usize, line: &mut [u8]) -> usize
-    requires { ⌜ length (now line) ≡ 267 ⌝ }
+    requires { ⌜ length (now line) ≡ lineBytes ⌝ }
     ensures { λ r. ⌜ Put (faultLine section number) (now (line .entry)) (now (line .exit)) r ⌝ }
 {
     let a = append(b"malformed ", line, 0);

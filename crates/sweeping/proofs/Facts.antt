@@ -7,48 +7,54 @@ use native.Mathlib.Omega.{arith}
 use borrow.Author.Tests.{leb-true, leb-false}
 use lib.Dec.{leb}
 use lib.ListN.{length, take}
-use Rattle.format.specs.Numbers.{rowNumbers, sectionItself}
-use Rattle.format.specs.Description.{Description}
-use Rattle.format.proofs.Formation.{Obeyed}
+use Rattle.format.specs.Numbers.{sweepNumbers, sectionItself}
+use Rattle.format.specs.Check.{checkOf}
+use Rattle.format.specs.Description.{Description, description}
+use Rattle.format.specs.declared.Layout.{Layout}
+use Rattle.format.specs.declared.Checked.the-variants.{Good}
+use Rattle.format.proofs.Formation.{Obeyed, formed, obeyed}
+use Rattle.format.proofs.Lists.{constructors-length}
 use Rattle.sweeping.specs.Sweep.{SweepRow, Sweep, before, ends, onward, stepAt, sweepFrom, sweepIn}
-use Rattle.sweeping.specs.Facts.{Tiles}
+use Rattle.sweeping.specs.Facts.{Tiles, Tiled}
 use Rattle.sweeping.specs.declared.End.the-variants as end
 use Rattle.sweeping.specs.declared.Step.{Step}
 use Rattle.sweeping.specs.declared.Step.the-variants.{Row, Stop}
 use Rattle.sweeping.proofs.Places.{step-fits}
 
 module _ (d : Description) (o : Obeyed d) (few : length (d .constructors) ≤ sectionItself) (c : ℕ) (s : List ℕ) where
-  -- a sweep from a place on
-  pub record Tiled (at : ℕ) (w : Sweep) : Type 0 where
-    pub tiles : Tiles d c s at (w .rows) (w .next)
-    pub inside : w .next ≤ length s
-
-  tile : (room at : ℕ) → at ≤ length s → Tiled at (sweepFrom d c s room at)
+  tile : (room at : ℕ) → at ≤ length s → Tiled d c s at (sweepFrom d c s room at)
   unfolding sweepFrom
   tile zero at h = go (leb (length s) at)
     where
-      go : (b : Bool) → Tiled at (cond b (ends end.Used at) (ends end.Full at))
+      go : (b : Bool) → Tiled d c s at (cond b (ends end.Used at) (ends end.Full at))
       go true = record { tiles = refl; inside = h }
       go false = record { tiles = refl; inside = h }
   tile (suc room) at h = go (leb (length s) at) refl (λ next l. tile room next l)
     where
-      here : at < length s → ((next : ℕ) → next ≤ length s → Tiled next (sweepFrom d c s room next)) → (x : Step) → stepAt d c s at ≡ x
-          → Tiled at (onward at x (sweepFrom d c s room))
+      here : at < length s → ((next : ℕ) → next ≤ length s → Tiled d c s next (sweepFrom d c s room next)) → (x : Step) → stepAt d c s at ≡ x
+          → Tiled d c s at (onward at x (sweepFrom d c s room))
       here l rest (Row m a k) e =
           let f = step-fits d o few c s at l m a k e in
           let r = rest (at + m) (f .here) in
           record { tiles = (refl, f .some, e, r .tiles); inside = r .inside }
       here l rest Stop e = record { tiles = refl; inside = h }
 
-      go : (b : Bool) → leb (length s) at ≡ b → ((next : ℕ) → next ≤ length s → Tiled next (sweepFrom d c s room next))
-          → Tiled at (cond b (ends end.Used at) (onward at (stepAt d c s at) (sweepFrom d c s room)))
+      go : (b : Bool) → leb (length s) at ≡ b → ((next : ℕ) → next ≤ length s → Tiled d c s next (sweepFrom d c s room next))
+          → Tiled d c s at (cond b (ends end.Used at) (onward at (stepAt d c s at) (sweepFrom d c s room)))
       go true e rest = record { tiles = refl; inside = h }
       go false e rest = here (leb-false (length s) at e) rest (stepAt d c s at) refl
 
-  -- "from byte 0": the rows tile the code up to the next byte, which lies in the code or at its end
-  pub sweep-tiles : (numbers : ℕ) → Tiled 0 (sweepIn d c s numbers)
+  -- "from byte 0"
+  tile-all : (numbers : ℕ) → Tiled d c s 0 (sweepIn d c s numbers)
   unfolding sweepIn
-  sweep-tiles numbers = tile (numbers / rowNumbers) 0 (omega arith)
+  tile-all numbers = tile (numbers / sweepNumbers) 0 (omega arith)
+
+-- of any bytes that are a well-formed description: the rows tile the code up to the next byte, which lies in the code or at its end
+pub sweep-tiles : (b : List ℕ) (l : Layout) → checkOf b ≡ Good l → (c : ℕ) (s : List ℕ) (numbers : ℕ)
+    → Tiled (description b l) c s 0 (sweepIn (description b l) c s numbers)
+sweep-tiles b l e c s numbers =
+    let f = formed b l e in
+    tile-all (description b l) (obeyed b l f) (rw constructors-length (omega (arith, f .room .few))) c s numbers
 
 module _ (d : Description) (c : ℕ) (s : List ℕ) where
   begins : (m n at : ℕ) → m ≤ n → sweepFrom d c s m at .rows ≡ take m (sweepFrom d c s n at .rows)
@@ -74,7 +80,7 @@ module _ (d : Description) (c : ℕ) (s : List ℕ) where
       go false x rest = here x rest
 
   -- with more numbers lent the sweep begins with the same rows
-  pub sweep-begins : (less more : ℕ) → less / rowNumbers ≤ more / rowNumbers
-      → sweepIn d c s less .rows ≡ take (less / rowNumbers) (sweepIn d c s more .rows)
+  pub sweep-begins : (less more : ℕ) → less / sweepNumbers ≤ more / sweepNumbers
+      → sweepIn d c s less .rows ≡ take (less / sweepNumbers) (sweepIn d c s more .rows)
   unfolding sweepIn
-  sweep-begins less more h = begins (less / rowNumbers) (more / rowNumbers) 0 h
+  sweep-begins less more h = begins (less / sweepNumbers) (more / sweepNumbers) 0 h

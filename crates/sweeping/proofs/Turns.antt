@@ -8,7 +8,7 @@ use lib.Dec.{leb}
 use lib.IntN.{ℤ, pos}
 use lib.ListN.{length, take, drop, set, length-append, length-drop}
 use lib.Seq.{sets-eq, take-at, drop-append-add, drop-drop}
-use Rattle.format.specs.Numbers.{rowNumbers}
+use Rattle.format.specs.Numbers.{sweepNumbers}
 use Rattle.format.specs.Description.{Description}
 use Rattle.sweeping.specs.Sweep.{SweepRow, Sweep, before, ends, onward, stepAt, sweepFrom, sweepIn, numbersOf}
 use Rattle.sweeping.specs.Sweeping.{Sweeps, putRow}
@@ -17,17 +17,17 @@ use Rattle.sweeping.specs.declared.End.the-variants as end
 use Rattle.sweeping.specs.declared.Step.the-variants.{Row, Stop}
 use Rattle.sweeping.specs.declared.Swept.the-variants.{Ended}
 
-pub put-four : (l : List ℤ) (i k : ℕ) (a b c d : ℤ) → k ≡ rowNumbers * i → rowNumbers * (i + 1) ≤ length l
+pub put-four : (l : List ℤ) (i k : ℕ) (a b c d : ℤ) → k ≡ sweepNumbers * i → sweepNumbers * (i + 1) ≤ length l
     → set (set (set (set l k a) (k + 1) b) (k + 2) c) (k + 3) d ≡ putRow i (a ∷ b ∷ c ∷ d ∷ []) l
 unfolding putRow
 put-four l i k a b c d e h =
     let p : k + 1 ≡ suc k = omega arith in
     let q : k + 2 ≡ suc (suc k) = omega arith in
     let r : k + 3 ≡ suc (suc (suc k)) = omega arith in
-    let z : rowNumbers * (i + 1) ≡ k + 4 = omega arith in
+    let z : sweepNumbers * (i + 1) ≡ k + 4 = omega arith in
     rw (p, q, r, z, ← e) (sets-eq (a ∷ b ∷ c ∷ d ∷ []) l k (omega arith) ∙ append-assoc (take k l) (a ∷ b ∷ c ∷ d ∷ []) (drop (k + 4) l))
 
-pub numbers-length : (rs : List SweepRow) → length (numbersOf rs) ≡ rowNumbers * length rs
+pub numbers-length : (rs : List SweepRow) → length (numbersOf rs) ≡ sweepNumbers * length rs
 unfolding numbersOf
 numbers-length [] = refl
 numbers-length (r ∷ rs) = let e = numbers-length rs in omega arith
@@ -38,15 +38,15 @@ numbers-append [] b = refl
 numbers-append (r ∷ a) b = ap (λ (l : List ℤ). pos (r .start) ∷ pos (r .length) ∷ pos (r .answer) ∷ pos (r .constructor) ∷ l) (numbers-append a b)
 
 -- a row put behind those that are written
-row-behind : (a w old : List ℤ) (n : ℕ) → length a ≡ rowNumbers * n → putRow n w (a ++ drop (rowNumbers * n) old) ≡ (a ++ w) ++ drop (rowNumbers * (n + 1)) old
+row-behind : (a w old : List ℤ) (n : ℕ) → length a ≡ sweepNumbers * n → putRow n w (a ++ drop (sweepNumbers * n) old) ≡ (a ++ w) ++ drop (sweepNumbers * (n + 1)) old
 unfolding putRow
 row-behind a w old n e =
-    let z : rowNumbers * (n + 1) ≡ length a + 4 = omega arith in
-    let y : rowNumbers * n + 4 ≡ rowNumbers * (n + 1) = omega arith in
-    let tail : drop (rowNumbers * (n + 1)) (a ++ drop (rowNumbers * n) old) ≡ drop (rowNumbers * (n + 1)) old =
-    ap (λ (m : ℕ). drop m (a ++ drop (rowNumbers * n) old)) z ∙ drop-append-add a (drop (rowNumbers * n) old) 4
-    ∙ drop-drop 4 (rowNumbers * n) old ∙ ap (λ (m : ℕ). drop m old) y in
-    rw (take-at a (drop (rowNumbers * n) old) (rowNumbers * n) e, tail) (sym (append-assoc a w (drop (rowNumbers * (n + 1)) old)))
+    let z : sweepNumbers * (n + 1) ≡ length a + 4 = omega arith in
+    let y : sweepNumbers * n + 4 ≡ sweepNumbers * (n + 1) = omega arith in
+    let tail : drop (sweepNumbers * (n + 1)) (a ++ drop (sweepNumbers * n) old) ≡ drop (sweepNumbers * (n + 1)) old =
+    ap (λ (m : ℕ). drop m (a ++ drop (sweepNumbers * n) old)) z ∙ drop-append-add a (drop (sweepNumbers * n) old) 4
+    ∙ drop-drop 4 (sweepNumbers * n) old ∙ ap (λ (m : ℕ). drop m old) y in
+    rw (take-at a (drop (sweepNumbers * n) old) (sweepNumbers * n) e, tail) (sym (append-assoc a w (drop (sweepNumbers * (n + 1)) old)))
 
 -- some rows, then a sweep
 abbrev pub joined : List SweepRow → Sweep → Sweep
@@ -79,12 +79,12 @@ module _ (d : Description) (c : ℕ) (s : List ℕ) where
     pub written : List SweepRow
     pub count : length written ≡ n
     pub whole : sweepFrom d c s room 0 ≡ joined written (sweepFrom d c s (room - n) at)
-    pub rows : new ≡ numbersOf written ++ drop (rowNumbers * n) old
+    pub rows : new ≡ numbersOf written ++ drop (sweepNumbers * n) old
     pub inside : at ≤ length s
     pub few : n ≤ room
-    pub lent : rowNumbers * room ≤ length old
+    pub lent : sweepNumbers * room ≤ length old
 
-  pub no-row : (room : ℕ) (old : List ℤ) → rowNumbers * room ≤ length old → Sweeping room old old 0 0
+  pub no-row : (room : ℕ) (old : List ℤ) → sweepNumbers * room ≤ length old → Sweeping room old old 0 0
   unfolding numbersOf
   no-row room old h =
       let z : room - 0 ≡ room = omega arith in
@@ -93,8 +93,8 @@ module _ (d : Description) (c : ℕ) (s : List ℕ) where
   module _ (room : ℕ) (old new : List ℤ) (at n : ℕ) (turn : Sweeping room old new at n) where
     pub long : length new ≡ length old
     long =
-        ap length (turn .rows) ∙ length-append (numbersOf (turn .written)) (drop (rowNumbers * n) old)
-        ∙ omega (arith, numbers-length (turn .written), turn .count, length-drop (rowNumbers * n) old, turn .few, turn .lent)
+        ap length (turn .rows) ∙ length-append (numbersOf (turn .written)) (drop (sweepNumbers * n) old)
+        ∙ omega (arith, numbers-length (turn .written), turn .count, length-drop (sweepNumbers * n) old, turn .few, turn .lent)
 
     -- the end: nothing comes behind the rows that are written
     pub swept : (why : End) → sweepFrom d c s (room - n) at ≡ ends why at → Sweeps (sweepFrom d c s room 0) (Ended why n at) old new
@@ -124,8 +124,8 @@ module _ (d : Description) (c : ℕ) (s : List ℕ) where
               (sym (append-assoc (turn .written) (r ∷ []) (sweepFrom d c s (room - (n + 1)) (at + l) .rows)));
           rows =
               p ∙ ap (putRow n (pos at ∷ pos l ∷ pos a ∷ pos k ∷ [])) (turn .rows)
-              ∙ row-behind (numbersOf (turn .written)) (pos at ∷ pos l ∷ pos a ∷ pos k ∷ []) old n (numbers-length (turn .written) ∙ ap (λ (m : ℕ). rowNumbers * m) (turn .count))
-              ∙ ap (λ (x : List ℤ). x ++ drop (rowNumbers * (n + 1)) old) (sym (numbers-append (turn .written) (r ∷ [])));
+              ∙ row-behind (numbersOf (turn .written)) (pos at ∷ pos l ∷ pos a ∷ pos k ∷ []) old n (numbers-length (turn .written) ∙ ap (λ (m : ℕ). sweepNumbers * m) (turn .count))
+              ∙ ap (λ (x : List ℤ). x ++ drop (sweepNumbers * (n + 1)) old) (sym (numbers-append (turn .written) (r ∷ [])));
           inside = g;
           few = omega arith;
           lent = turn .lent;

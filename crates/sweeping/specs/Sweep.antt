@@ -5,7 +5,7 @@ use mathlib.Core.List.{List, [], _∷_, _++_}
 use lib.Dec.{leb}
 use lib.IntN.{ℤ, pos}
 use lib.ListN.{length, drop}
-use Rattle.format.specs.Numbers.{rowNumbers, sectionItself}
+use Rattle.format.specs.Numbers.{sweepNumbers, sectionItself}
 use Rattle.format.specs.Check.{checkOf}
 use Rattle.format.specs.Description.{Description, description}
 use Rattle.format.specs.declared.Checked.{Checked}
@@ -83,7 +83,7 @@ numbersOf (r ∷ rs) = pos (r .start) ∷ pos (r .length) ∷ pos (r .answer) �
 
 -- of a well-formed description, with so many numbers lent
 unfoldable pub sweepIn : Description → ℕ → List ℕ → ℕ → Sweep
-sweepIn d c s numbers = sweepFrom d c s (numbers / rowNumbers) 0
+sweepIn d c s numbers = sweepFrom d c s (numbers / sweepNumbers) 0
 
 abbrev pub sweptBy : List ℕ → ℕ → List ℕ → ℕ → Checked → Swept
 sweptBy b c s numbers (Good l) =
@@ -94,7 +94,7 @@ sweptBy b c s numbers (Fault k i) = Malformed k i
 abbrev pub lentBy : List ℕ → ℕ → List ℕ → List ℤ → Checked → List ℤ
 lentBy b c s old (Good l) =
     numbersOf (sweepIn (description b l) c s (length old) .rows)
-    ++ drop (rowNumbers * length (sweepIn (description b l) c s (length old) .rows)) old
+    ++ drop (sweepNumbers * length (sweepIn (description b l) c s (length old) .rows)) old
 lentBy b c s old (Fault k i) = old
 
 -- bytes b as the description, context c, bytes s as the code, so many numbers lent

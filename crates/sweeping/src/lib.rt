@@ -8,7 +8,7 @@ ghost use mathlib.Core.Path.{_≡_};
 ghost use Prim.Native.Nat.{_+_, _*_, _<_, _≤_, _^_};
 ghost use lib.IntN.{pos};
 ghost use lib.ListN.{length};
-ghost use Rattle.format.specs.Numbers.{rowNumbers};
+ghost use Rattle.format.specs.Numbers.{sweepNumbers};
 ghost use Rattle.format.specs.Check.{Formed};
 ghost use Rattle.format.specs.Description.{description};
 ghost use Rattle.tables.specs.Starts.{Starts};
@@ -38,7 +38,7 @@ pub enum Step {
     Stop,
 }
 
-const NUMBERS: usize = format::ROW_NUMBERS;
+const NUMBERS: usize = format::SWEEP_NUMBERS;
 
 // A gap of one byte, with the refusal's number.
 fn gap_of(refusal: Refusal) -> Step
@@ -107,7 +107,7 @@ fn step_at(
 
 // Row i of the lent rows.
 fn put_row(rows: &mut [i64], i: usize, start: usize, size: usize, answer: u8, constructor: usize)
-    requires { ⌜ rowNumbers * (i + 1) ≤ length (now rows) ⌝ }
+    requires { ⌜ sweepNumbers * (i + 1) ≤ length (now rows) ⌝ }
     requires { ⌜ (start < 2 ^ 63) × (size < 2 ^ 63) × (constructor < 2 ^ 63) ⌝ }
     ensures { λ _. ⌜ now (rows .exit) ≡ putRow i (pos start ∷ pos size ∷ pos answer ∷ pos constructor ∷ []) (now (rows .entry)) ⌝ }
 {

@@ -33,7 +33,7 @@ pub const SCRATCH_NUMBERS: usize = 5;
 pub const SCRATCH: usize = SCRATCH_NUMBERS * format::ROWS;
 
 // The ends of a constructor's operands, and its start.
-const ENDS: usize = 9;
+const ENDS: usize = format::OPERANDS_EACH as usize + 1;
 
 const LONGEST: usize = format::LONGEST as usize;
 

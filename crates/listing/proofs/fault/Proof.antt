@@ -9,6 +9,7 @@ use Rattle.listing.proofs.fault.Tie as tie
 use Rattle.listing.proofs.fault.Reads as reads
 use Rattle.listing.proofs.fault.Lts as lts
 use Rattle.io.proofs.write_all.Reads as write-all-reads
+use Rattle.listing_lines.specs.Lining.{lineBytes}
 use Rattle.listing_lines.proofs.fault_line.Reads as fault-line-reads
 
 -- src/main.rt:48:59
@@ -25,7 +26,7 @@ array-share-prefix-line c = search needs
 
 -- src/main.rt:49:34
 slice-aggregate-write-all : tie.Need-slice-aggregate-write-all
-slice-aggregate-write-all c = sym (length-take-le _ _ (rw (c .before .before .fault-line .kept .1 .1 .0) (omega (arith, c .before .before .fault-line .ensures .size, c .before .before .fault-line .ensures .fits, length-replicate {A = ℕ} 267 0))))
+slice-aggregate-write-all c = sym (length-take-le _ _ (rw (c .before .before .fault-line .kept .1 .1 .0) (omega (arith, c .before .before .fault-line .ensures .size, c .before .before .fault-line .ensures .fits, length-replicate {A = ℕ} lineBytes 0))))
 
 -- src/main.rt:49:5
 write-all-requires : tie.Need-write-all-requires

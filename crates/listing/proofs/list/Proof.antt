@@ -5,6 +5,7 @@ use borrow.Author.Needs.{needs}
 use lib.ListN.{length}
 use lib.Seq.{length-take-le}
 use Rattle.walking.specs.Scratch.{scratchLength}
+use Rattle.listing_lines.specs.Lining.{lineBytes}
 use Rattle.listing_lines.specs.Lining.{Moves}
 use Rattle.listing_lines.specs.declared.Place.the-variants.{At}
 use Rattle.listing.proofs.list.Statement.{statement}
@@ -16,7 +17,7 @@ use Rattle.listing_lines.proofs.next_line.Reads as next-line-reads
 use Rattle.tables.proofs.starts.Reads as starts-reads
 
 abbrev Inv-loop : tie.InvT-loop
-Inv-loop desc layout code starts scratch₀ line₀ at₀ scratch line at = (length scratch ≡ scratchLength) × (length line ≡ 267)
+Inv-loop desc layout code starts scratch₀ line₀ at₀ scratch line at = (length scratch ≡ scratchLength) × (length line ≡ lineBytes)
 
 abbrev μ-loop : tie.MeasureT-loop
 μ-loop desc layout code starts scratch₀ line₀ at₀ scratch line at = length code - at

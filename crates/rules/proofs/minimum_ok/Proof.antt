@@ -4,6 +4,7 @@ use borrow.Author.Tests.{le-leb}
 use native.Mathlib.Omega.{arith}
 use mathlib.Core.Path.{sym}
 use Prim.Native.Nat.{_*_}
+use Rattle.format.specs.Numbers.{longest}
 use borrow.Author.Needs.{needs}
 use Rattle.rules.proofs.minimum_ok.Statement.{statement}
 use Rattle.rules.proofs.minimum_ok.Tie as tie
@@ -30,7 +31,7 @@ shr-result c = search needs
 
 -- src/lib.rt:80:1
 returns-2 : tie.Need-returns-2
-returns-2 c = rw (le-leb (c .before .before .args .c .minimum) 16 (omega arith)) (none-past (c .before .before .args .c .pattern .mask) (8 * c .before .before .args .c .minimum))
+returns-2 c = rw (le-leb (c .before .before .args .c .minimum) longest (omega arith)) (none-past (c .before .before .args .c .pattern .mask) (8 * c .before .before .args .c .minimum))
 
 pub minimum-ok-spec : {M : Type 1} → statement M
 minimum-ok-spec = tie.close (tie.spec returns mul-result cast-result shr-result returns-2)

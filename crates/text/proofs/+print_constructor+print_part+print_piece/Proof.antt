@@ -10,6 +10,7 @@ use native.Mathlib.Omega.{arith}
 use mathlib.Core.Path.{_≡_, refl, sym, ap, _∙_}
 use borrow.Author.Needs.{needs}
 use Prim.Native.Nat.{ℕ, _<_, _≤_, _+_, _-_, _*_}
+use Rattle.format.specs.Numbers.{mostRows}
 use borrow.Fn.Kinds.{In}
 use borrow.Fn.PlainCycle.{Measures, is, falls, and}
 use Rattle.text.proofs.print_constructor.Reads as print-constructor
@@ -31,13 +32,13 @@ use Rattle.text.proofs.+print_constructor+print_part+print_piece.{state
 use Rattle.text.proofs.+print_constructor+print_part+print_piece.Tie.{close}
 
 abbrev μ-print-constructor : Measures 3 print-constructor-kinds.ps ℕ
-μ-print-constructor κs a = 3 * (33 - a .1 .1 .1 .1 .0) - 1
+μ-print-constructor κs a = 3 * (mostRows + 1 - a .1 .1 .1 .1 .0) - 1
 
 abbrev μ-print-part : Measures 3 print-part-kinds.ps ℕ
-μ-print-part κs a = 3 * (33 - a .1 .1 .1 .1 .0)
+μ-print-part κs a = 3 * (mostRows + 1 - a .1 .1 .1 .1 .0)
 
 abbrev μ-print-piece : Measures 3 print-piece-kinds.ps ℕ
-μ-print-piece κs a = 3 * (33 - a .1 .1 .1 .1 .0) - 2
+μ-print-piece κs a = 3 * (mostRows + 1 - a .1 .1 .1 .1 .0) - 2
 
 abbrev print-constructor-at : ℕ → In 3 print-constructor-kinds.ps
 print-constructor-at t =

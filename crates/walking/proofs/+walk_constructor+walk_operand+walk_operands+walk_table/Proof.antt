@@ -13,6 +13,7 @@ use native.Mathlib.Omega.{arith}
 use mathlib.Core.Path.{_≡_, refl, sym, ap, _∙_}
 use borrow.Author.Needs.{needs}
 use Prim.Native.Nat.{ℕ, _<_, _+_, _-_, _*_}
+use Rattle.format.specs.Numbers.{mostRows}
 use borrow.Fn.Kinds.{In}
 use borrow.Fn.PlainCycle.{Measures, is, falls, and}
 use Rattle.walking.proofs.walk_constructor.Reads as walk-constructor
@@ -44,16 +45,16 @@ use Rattle.walking.proofs.+walk_constructor+walk_operand+walk_operands+
 }
 
 abbrev μ-walk-constructor : Measures 4 walk-constructor-kinds.ps ℕ
-μ-walk-constructor κs a = 4 * (33 - a .1 .1 .1 .1 .1 .1 .1 .1 .1 .0) - 1
+μ-walk-constructor κs a = 4 * (mostRows + 1 - a .1 .1 .1 .1 .1 .1 .1 .1 .1 .0) - 1
 
 abbrev μ-walk-operand : Measures 4 walk-operand-kinds.ps ℕ
-μ-walk-operand κs a = 4 * (33 - a .1 .1 .1 .1 .1 .1 .1 .1 .1 .1 .0) + 1
+μ-walk-operand κs a = 4 * (mostRows + 1 - a .1 .1 .1 .1 .1 .1 .1 .1 .1 .1 .0) + 1
 
 abbrev μ-walk-operands : Measures 4 walk-operands-kinds.ps ℕ
-μ-walk-operands κs a = 4 * (33 - a .1 .1 .1 .1 .1 .1 .1 .1 .1 .0) + 2
+μ-walk-operands κs a = 4 * (mostRows + 1 - a .1 .1 .1 .1 .1 .1 .1 .1 .1 .0) + 2
 
 abbrev μ-walk-table : Measures 4 walk-table-kinds.ps ℕ
-μ-walk-table κs a = 4 * (33 - a .1 .1 .1 .1 .1 .1 .1 .1 .1 .0)
+μ-walk-table κs a = 4 * (mostRows + 1 - a .1 .1 .1 .1 .1 .1 .1 .1 .1 .0)
 
 abbrev walk-constructor-at : ℕ → In 4 walk-constructor-kinds.ps
 walk-constructor-at t =

@@ -1,0 +1,49 @@
+/* Calls every function of the header on a description (the first argument's file) and code 25 FE, and prints each answer:
+ * its number, its four values, and what was lent. */
+#include <inttypes.h>
+#include <stdio.h>
+
+#include "dookerand.h"
+
+static uint8_t description[54284];
+
+static void print(const char *request, uint32_t number, const uint64_t values[4])
+{
+    printf("%s %" PRIu32, request, number);
+    for (int i = 0; i < 4; i++)
+        printf(" %" PRIu64, values[i]);
+    printf("\n");
+}
+
+static void print_rows(const int64_t *rows, size_t numbers)
+{
+    for (size_t i = 0; i < numbers; i++)
+        printf("%" PRId64 "%s", rows[i], i + 1 < numbers ? " " : "\n");
+}
+
+int main(int argc, char **argv)
+{
+    const uint8_t code[] = { 0x25, 0xfe };
+    const uint8_t tree[] = { 1, 0, 0, 0, 0, 0 };
+    int64_t rows[20] = { 0 };
+    uint8_t text[16] = "................";
+    uint64_t values[4];
+    size_t length;
+    FILE *file = argc == 2 ? fopen(argv[1], "rb") : NULL;
+
+    if (file == NULL)
+        return 2;
+    length = fread(description, 1, sizeof description, file);
+    fclose(file);
+    print("check", dookerand_check(description, length, values), values);
+    print("ask", dookerand_ask(description, length, 1, 0, code, sizeof code, values), values);
+    print("clash", dookerand_clash(description, length, 1, values), values);
+    print("tree", dookerand_tree(description, length, 0, tree, sizeof tree, values), values);
+    print("decode", dookerand_decode(description, length, 0, code, sizeof code, rows, 20, values), values);
+    print_rows(rows, 20);
+    print("text", dookerand_text(description, length, 0, code, sizeof code, text, sizeof text, values), values);
+    printf("%.16s\n", (const char *) text);
+    print("sweep", dookerand_sweep(description, length, 0, code, sizeof code, rows, 20, values), values);
+    print_rows(rows, 20);
+    return 0;
+}
