@@ -36,6 +36,7 @@ pub fn compare(rng: &mut Rng) {
             tally: Tally::new(&ANSWERS[..10]),
             features: [0; FEATURES.len()],
             inside: [0; PLACED.len()],
+            past: 0,
         },
         kind: "",
     };
@@ -45,6 +46,12 @@ pub fn compare(rng: &mut Rng) {
     decoding.tally.at_least(LEAST);
     print_counts("of those done, with", &FEATURES, &decoding.features, LEAST);
     print_counts("at another place than 0", &PLACED, &decoding.inside, LEAST);
+    print_counts(
+        "at a place past the code's end",
+        &PLACED[..1],
+        &[decoding.past],
+        LEAST,
+    );
 }
 
 struct Decoding {
@@ -53,6 +60,9 @@ struct Decoding {
     features: [usize; FEATURES.len()],
     /// How many of each refusal name another place than 0.
     inside: [usize; PLACED.len()],
+    /// How many are short at a place past the code's end, as at a context
+    /// field there.
+    past: usize,
 }
 
 impl Request for Decoding {
@@ -71,6 +81,7 @@ impl Request for Decoding {
             2..=6 => self.inside[number as usize - 2] += usize::from(values[0] > 0),
             _ => {}
         }
+        self.past += usize::from(number == 2 && values[0] > given.code.len() as u64);
         (number, 0)
     }
 }
