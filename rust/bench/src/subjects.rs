@@ -51,7 +51,7 @@ fn s(code: usize) -> Subject {
     subject("S", d, 0, tree_of(&TABLE_1), stream, PLANTED)
 }
 
-pub fn avr(code: usize) -> Subject {
+fn avr(code: usize) -> Subject {
     let d = avr_description();
     let tree = largest(&d);
     let stream = any_instructions(&d, code);

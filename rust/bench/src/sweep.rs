@@ -7,7 +7,7 @@ use dookerand::Answer;
 
 use crate::choosing::Set;
 use crate::decoding::{set, CONTEXT};
-use crate::subjects::avr;
+use crate::subjects::{any_instructions, avr_description};
 use crate::timing::{print_each, print_speed, FEW};
 
 /// Bytes of code.
@@ -53,9 +53,10 @@ pub fn one_sweep() -> Answer {
 
 pub fn one_avr_sweep() -> Answer {
     let mut rows = vec![0; ROW_NUMBERS * CODE];
-    let avr = avr(CODE);
-    let code = code(&avr.set);
-    dookerand::sweep(black_box(&avr.set.bytes), avr.context, code, &mut rows)
+    let description = avr_description();
+    let stream = any_instructions(&description, CODE);
+    let set = Set::of(description, stream);
+    dookerand::sweep(black_box(&set.bytes), 0, code(&set), &mut rows)
 }
 
 /// As much of the stream as is swept.
