@@ -33,7 +33,7 @@ use Rattle.instruction.specs.declared.Refusal.{Refusal}
 use Rattle.instruction.specs.declared.Refusal.the-variants.{Short, NoMatch, Hole, Far, ManyRows, Empty}
 
 module _ (d : Description) (c : ℕ) (input : List ℕ) where
-  -- a result that is no refusal, or one that choosing explains out
+  -- a result that is no refusal, or one that choosing explains
   abbrev Explained : {A : Type 0} → Result A → Type 0
   Explained (done a l) = Unit {0}
   Explained (refused x) = ChoiceRefused d c input x
