@@ -4,8 +4,8 @@ use mathlib.Core.List.{List}
 use Rattle.format.specs.Description.{Description, description}
 use Rattle.format.specs.declared.Checked.{Checked}
 use Rattle.format.specs.declared.Checked.the-variants.{Good, Fault}
-use Rattle.instruction.specs.Tree.{Node}
-use Rattle.instruction.specs.Walk.{Result, instructionOf}
+use Rattle.decoding_spec.specs.Tree.{Node}
+use Rattle.decoding_spec.specs.Walk.{Result, instructionOf}
 
 -- "1 | description not well formed" comes first; else it is told what becomes of the instruction: bytes b as the description,
 -- context c, bytes s as the code, and the judgement of b

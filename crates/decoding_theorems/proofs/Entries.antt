@@ -8,11 +8,11 @@ use Rattle.format.specs.declared.Layout.{Layout}
 use Rattle.format.specs.declared.Checked.{Checked}
 use Rattle.format.specs.declared.Checked.the-variants.{Good, Fault}
 use Rattle.format.proofs.Formation.{formed, obeyed}
-use Rattle.instruction.specs.Tree.{Node}
-use Rattle.instruction.specs.Walk.{Result, refused, instructionOf}
-use Rattle.instruction.specs.Entry.{answered}
-use Rattle.instruction.specs.declared.Refusal.the-variants.{Short}
-use Rattle.instruction.proofs.Stays.{stays}
+use Rattle.decoding_spec.specs.Tree.{Node}
+use Rattle.decoding_spec.specs.Walk.{Result, refused, instructionOf}
+use Rattle.decoding_spec.specs.Entry.{answered}
+use Rattle.decoding_spec.specs.declared.Refusal.the-variants.{Short}
+use Rattle.decoding_theorems.proofs.Stays.{stays}
 
 pub answers-stay : {A : Type 0} (told : Description → Result Node → A) (fault : ℕ → ℕ → A) (b : List ℕ) (c : ℕ) (s m : List ℕ)
     → ((l : Layout) → checkOf b ≡ Good l → (p : ℕ) → instructionOf (description b l) c s ≡ refused (Short p) → ⊥)

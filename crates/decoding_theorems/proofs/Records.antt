@@ -22,7 +22,7 @@ use Rattle.format.specs.declared.Constructor.{Constructor}
 use Rattle.format.specs.declared.Operand.{Operand}
 use Rattle.format.proofs.Formation.{Obeyed}
 use Rattle.format.proofs.Tables.{shaped, table-low}
-use Rattle.instruction.specs.Usable.{Placed, Usable}
+use Rattle.decoding_theorems.specs.Usable.{Placed, Usable}
 
 -- the front and the back of a rule's last part
 operands-ok : (d : Description) (i : ℕ) (k : Constructor) → shapeOk d i k ≡ true → rangeOk operandsEach (length (d .operands)) (k .operands) ≡ true

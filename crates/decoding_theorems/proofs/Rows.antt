@@ -1,7 +1,7 @@
 -- What holds of each row of two lists holds of each row of both.
 use mathlib.Core.List.{List, [], _∷_, _++_}
-use Rattle.instruction.specs.Tree.{Row}
-use Rattle.instruction.specs.Facts.{Each}
+use Rattle.decoding_spec.specs.Tree.{Row}
+use Rattle.decoding_theorems.specs.Facts.{Each}
 
 pub each-append : (P : Row → Type 0) (a b : List Row) → Each P a → Each P b → Each P (a ++ b)
 each-append P [] b p q = q

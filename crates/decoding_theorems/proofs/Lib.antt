@@ -2,10 +2,10 @@
 pub mod Records
 pub mod Taken
 pub mod Stays
-pub mod Found
+pub mod Relation
 pub mod Rows
-pub mod Lying
+pub mod InBounds
 pub mod Shapes
-pub mod Choices
 pub mod Refusals
+pub mod Deep
 pub mod Entries

@@ -1,13 +1,12 @@
 -- What an instruction consists of, as a tree of constructors and fields, and the rows that say it.
-use Prim.Native.Nat.{ℕ, suc}
+use Prim.Native.Nat.{ℕ}
 use mathlib.Core.List.{List, [], _∷_, _++_}
 use lib.IntN.{ℤ, pos}
-use lib.ListN.{length}
 
 mutual
   pub data Node : Type 0 where
     -- a constructor, its start and length, and its operands in order
-    built : (constructor start length : ℕ) → Nodes → Node
+    built : (constructor start size : ℕ) → Nodes → Node
     -- a field, its start and its value
     numbered : (field start : ℕ) → ℤ → Node
     -- a field, its start and its name number
@@ -17,22 +16,19 @@ mutual
     none : Nodes
     more : Node → Nodes → Nodes
 
--- the size is the number of rows of the row's part, itself included; it is not handed out
 pub record Row : Type 0 where
   pub kind : ℕ
   pub number : ℕ
   pub start : ℕ
   pub last : ℤ
-  pub size : ℕ
 
 -- "Rows, in the order of the walk (a constructor, then its operands) ..: 0, constructor, start, length; 1, field, start, value;
 -- 2, field, start, name number (first name plus value)."
 unfoldable mutual
   pub rowsOf : Node → List Row
-  rowsOf (built k s l f) =
-      record { kind = 0; number = k; start = s; last = pos l; size = suc (length (rowsOfAll f)) } ∷ rowsOfAll f
-  rowsOf (numbered i s v) = record { kind = 1; number = i; start = s; last = v; size = 1 } ∷ []
-  rowsOf (named i s n) = record { kind = 2; number = i; start = s; last = pos n; size = 1 } ∷ []
+  rowsOf (built k s l f) = record { kind = 0; number = k; start = s; last = pos l } ∷ rowsOfAll f
+  rowsOf (numbered i s v) = record { kind = 1; number = i; start = s; last = v } ∷ []
+  rowsOf (named i s n) = record { kind = 2; number = i; start = s; last = pos n } ∷ []
 
   pub rowsOfAll : Nodes → List Row
   rowsOfAll none = []

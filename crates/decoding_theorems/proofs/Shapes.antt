@@ -1,0 +1,50 @@
+-- The tree's numbers are those of the description's records, and each constructor has as many operands as its record says.
+use Prim.Native.Nat.{ℕ, _<_, _+_, _≤_}
+use mathlib.Core.List.{List}
+use mathlib.Core.Path.{_≡_, refl}
+use native.Mathlib.Omega.{arith}
+use lib.ListN.{length, getD, drop}
+use Rattle.format.specs.Description.{Description, noField}
+use Rattle.format.specs.Rules.{operandOf}
+use Rattle.format.specs.declared.Constructor.{Constructor}
+use Rattle.format.specs.declared.Operand.{Operand}
+use Rattle.format.proofs.Formation.{Obeyed}
+use Rattle.fields.proofs.Values.{named-within}
+use Rattle.decoding_spec.specs.Tree.{Node, Nodes}
+use Rattle.decoding_spec.specs.Walk.{done, instructionOf}
+use Rattle.decoding_spec.specs.declared.State.{State}
+use Rattle.decoding_theorems.specs.Facts.{Shaped, ShapedAll, countOf}
+use Rattle.decoding_theorems.specs.Relation.{TableWalk, OperandWalk, OperandsWalk, taken, number, name, table, last, next}
+use Rattle.decoding_theorems.specs.Usable.{Placed}
+use Rattle.decoding_theorems.proofs.Records.{field-ok, usable}
+use Rattle.decoding_theorems.proofs.Relation.{relation}
+use Rattle.decoding_theorems.proofs.Taken.{takes}
+
+module _ (d : Description) (o : Obeyed d) (input : List ℕ) where
+  counted : {k : Constructor} {at left i far far′ : ℕ} {ends : List ℕ} {st st′ : State} {f : Nodes}
+      → OperandsWalk d input k at left i ends far st f far′ st′ → countOf f ≡ left
+  unfolding countOf
+  counted last = refl
+  counted (next x r) = omega (arith, counted r)
+
+  mutual
+    table-shaped : {t at : ℕ} {st st′ : State} {n : Node} {l : ℕ} → TableWalk d input t at st n l st′ → Shaped d n
+    table-shaped (taken {t} {at} {k} {st} c f) =
+        let w = takes d (st .context) t (drop at input) o k (c .chosen) .within in
+        (w, counted f, operands-shaped f (λ j a b. usable d o k w .placed j (omega arith)))
+
+    operand-shaped : {x : Operand} {at : ℕ} {st st′ : State} {n : Node} {l : ℕ} → OperandWalk d input x at st n l st′ → Placed d x → Shaped d n
+    operand-shaped (number r q) p = rw (r .index) (p .field (r .kind))
+    operand-shaped (name {at} {i} {st} r q) p =
+        let low : i < length (d .fields) = rw (r .index) (p .field (r .kind)) in
+        (low, rw (q .value) (named-within (length (d .names)) (getD (d .fields) i noField) (drop at input) (st .context) (field-ok d o i low) (q .look)))
+    operand-shaped (table z t) p = table-shaped t
+
+    operands-shaped : {k : Constructor} {at left i far far′ : ℕ} {ends : List ℕ} {st st′ : State} {f : Nodes}
+        → OperandsWalk d input k at left i ends far st f far′ st′ → ((j : ℕ) → i ≤ j → j < i + left → Placed d (operandOf d k j)) → ShapedAll d f
+    operands-shaped last p = tt
+    operands-shaped (next {o = i} x r) p =
+        (operand-shaped x (p i (omega arith) (omega arith)), operands-shaped r (λ j a b. p j (omega arith) (omega arith)))
+
+pub shaped : (d : Description) → Obeyed d → (c : ℕ) (s : List ℕ) (n : Node) (l : ℕ) (st : State) → instructionOf d c s ≡ done n l st → Shaped d n
+shaped d o c s n l st e = table-shaped d o s (relation d c s n l st e .root)

@@ -1,0 +1,4 @@
+-- What the theorems on decoding say.
+pub mod Usable
+pub mod Relation
+pub mod Facts

@@ -1,0 +1,1 @@
+// Theorems about decoding one instruction. What they say is in specs/, their proofs are in proofs/.
