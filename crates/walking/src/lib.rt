@@ -1,31 +1,27 @@
-// The walk over an instruction: from the root to its operands, each inner table in turn. The rows go into a scratch buffer.
+// The walk over an instruction: from the root to its operands, each inner table in turn.
 use choice::Choice;
+use decoding_spec::Refusal;
+use decoding_spec::State;
 use fields::Look;
 use format::Constructor;
 use format::Field;
-use format::Layout;
 use format::Operand;
-use instruction::Refusal;
-ghost use mathlib.Core.Bool.{cond};
+use setting::FIXED;
 ghost use mathlib.Core.List.{List, [], _∷_};
 ghost use mathlib.Core.Path.{_≡_};
 ghost use Prim.Native.Nat.{ℕ, _+_, _-_, _*_, _<_, _≤_, _^_, min, max};
-ghost use lib.Dec.{eqb};
 ghost use lib.IntN.{ℤ, pos};
-ghost use lib.ListN.{length, getD, replicate};
-ghost use Rattle.format.specs.Numbers.{longest, mostRows, operandsEach, tables};
-ghost use Rattle.format.specs.Check.{Formed};
-ghost use Rattle.format.specs.Description.{description, fieldsOf, constructorsOf, noField, noConstructor};
+ghost use lib.ListN.{length, getD};
+ghost use Rattle.format.specs.Numbers.{longest, mostRows, tables};
 ghost use Rattle.format.specs.Rules.{bitsOf};
-ghost use Rattle.tables.specs.Starts.{Starts};
-ghost use Rattle.fields.specs.Value.{Readable};
-ghost use Rattle.fields.specs.Look.{lookOf, numberOf};
-ghost use Rattle.fields.specs.declared.Look.{Look};
-ghost use Rattle.instruction.specs.Tree.{rowsOf, rowsOfAll};
-ghost use Rattle.instruction.specs.Walk.{shownAs, fieldFrom, operandFrom, operandsFrom, constructorFrom, walkFrom, widthOf, instructionOf};
-ghost use Rattle.walking.specs.Scratch.{scratchNumbers, scratchLength, scratchRow, putAt};
-ghost use Rattle.walking.specs.Walks.{WalksTo, Within, Closes};
-ghost use Rattle.instruction.specs.Usable.{Placed, Usable};
+ghost use Rattle.fields.specs.Value.{valueOf, Readable};
+ghost use Rattle.fields.specs.Look.{numberOf};
+ghost use Rattle.decoding_spec.specs.State.{counted};
+ghost use Rattle.decoding_spec.specs.Walk.{widthOf, instructionFrom};
+ghost use Rattle.decoding_theorems.specs.Usable.{Placed, Usable};
+ghost use Rattle.setting.specs.Fixed.{Fixed, settingIn, totalPlace};
+ghost use Rattle.walking.specs.Scratch.{sized, written, sizedOf};
+ghost use Rattle.walking.specs.Walks.{Ready, WalksTo, Within, Closes, Showable, ShownWalks, FieldWalks, OperandWalks, OperandsWalk, ConstructorWalks, TableWalks, RootWalks, PutsNumber, PlacedAt, UsableAt, ConstructorAt, answerOf, instructionAs, resultAt, toldLength};
 
 // A scratch row's numbers: those of a row, and its size. And the scratch buffer's numbers, for all rows.
 pub const SCRATCH_NUMBERS: usize = 5;
@@ -37,10 +33,16 @@ const ENDS: usize = format::OPERANDS_EACH as usize + 1;
 
 const LONGEST: usize = format::LONGEST as usize;
 
-// The rows used so far, and the length; or the refusal.
+// The state behind a walk, and its length; or the refusal.
 pub enum Walked {
-    Done { used: usize, length: usize },
+    Done { state: State, length: usize },
     Refused(Refusal),
+}
+
+// An instruction with its rows.
+pub struct Instruction {
+    pub rows: [i64; SCRATCH],
+    pub walked: Walked,
 }
 
 fn wide(x: u8) -> usize
@@ -67,7 +69,16 @@ fn smaller(a: usize, b: usize) -> usize
     b
 }
 
-// A row at its place.
+fn one_more(state: State) -> State
+    requires { ⌜ state .used ≤ mostRows ⌝ }
+    ensures { λ r. ⌜ r ≡ counted state ⌝ }
+{
+    let mut next = state;
+    next.used = state.used + 1;
+    next
+}
+
+// A row at its place. A buffer of another length than the scratch's is for walks that keep no rows.
 fn put_row(
     rows: &mut [i64],
     row: usize,
@@ -77,16 +88,17 @@ fn put_row(
     last: i64,
     size: usize,
 )
-    requires { ⌜ (length (now rows) ≡ scratchLength) × (row < mostRows) ⌝ }
-    requires { ⌜ (number < 65536) × (start ≤ longest) × (size ≤ mostRows) ⌝ }
-    ensures { λ _. ⌜ now (rows .exit) ≡ putAt (scratchNumbers * row) (scratchRow (record { kind = kind; number = number; start = start; last = last; size = size })) (now (rows .entry)) ⌝ }
+    requires { ⌜ (row < mostRows) × (number < 65536) × (start ≤ longest) × (size ≤ mostRows) ⌝ }
+    ensures { λ _. ⌜ now (rows .exit) ≡ written row (sized kind number start last size ∷ []) (now (rows .entry)) ⌝ }
 {
-    let at = SCRATCH_NUMBERS * row;
-    rows[at] = kind as i64;
-    rows[at + 1] = number as i64;
-    rows[at + 2] = start as i64;
-    rows[at + 3] = last;
-    rows[at + 4] = size as i64;
+    if rows.len() == SCRATCH {
+        let at = SCRATCH_NUMBERS * row;
+        rows[at] = kind as i64;
+        rows[at + 1] = number as i64;
+        rows[at + 2] = start as i64;
+        rows[at + 3] = last;
+        rows[at + 4] = size as i64;
+    }
 }
 
 fn width_of(field: Field) -> usize
@@ -98,62 +110,65 @@ fn width_of(field: Field) -> usize
     0
 }
 
-// A field whose value is shown as a number.
+// A field whose value is shown as a number; it is read only where rows are kept.
 fn put_number(
     field: Field,
     signed: bool,
     index: u8,
-    value: u64,
+    code: &[u8],
+    context: u32,
     place: usize,
     rows: &mut [i64],
     used: usize,
 )
-    requires { ⌜ (length (now rows) ≡ scratchLength) × (used < mostRows) × (place ≤ longest) ⌝ }
-    requires { ⌜ (Readable field) × (value < 2 ^ bitsOf field) ⌝ }
-    ensures { λ _. ⌜ now (rows .exit) ≡ putAt (scratchNumbers * used) (scratchRow (record { kind = 1; number = index; start = place; last = numberOf signed (bitsOf field) value; size = 1 })) (now (rows .entry)) ⌝ }
+    requires { ⌜ Readable field × (field .source ≡ 0 → field .width ≤ length (now code)) ⌝ }
+    requires { ⌜ (used < mostRows) × (place ≤ longest) ⌝ }
+    ensures { λ _. ⌜ PutsNumber field signed index (now (code .entry)) context place used (now (rows .entry)) (now (rows .exit)) ⌝ }
 {
-    let bits = field.high + 1 - field.low;
-    let shown = fields::number(signed, bits, value);
-    put_row(rows, used, 1, wide(index), place, shown, 1);
+    if rows.len() == SCRATCH {
+        let value = fields::value(field, code, context);
+        let bits = field.high + 1 - field.low;
+        let shown = fields::number(signed, bits, value);
+        put_row(rows, used, 1, wide(index), place, shown, 1);
+    }
 }
 
 // A field's value as its look shows it.
 fn show(
     desc: &[u8],
-    layout: Layout,
+    fixed: &[usize; FIXED],
     field: Field,
     index: u8,
-    value: u64,
+    code: &[u8],
     place: usize,
     rows: &mut [i64],
-    used: usize,
+    state: State,
 ) -> Walked
-    requires { ⌜ Formed (now desc) layout ⌝ }
-    requires { ⌜ (Readable field) × (value < 2 ^ bitsOf field) ⌝ }
-    requires { ⌜ (lookOf (field .look) ≡ Look.Name → field .first + value < layout .names .count) ⌝ }
-    requires { ⌜ (length (now rows) ≡ scratchLength) × (used < mostRows) × (place + widthOf field ≤ longest) ⌝ }
-    ensures { λ r. ⌜ WalksTo rowsOf (shownAs (description (now (desc .entry)) layout) field index place value (lookOf (field .look))) r used (now (rows .entry)) (now (rows .exit)) ⌝ }
-    ensures { λ r. ⌜ Within place used r ⌝ }
+    requires { ⌜ Fixed (now desc) (now fixed) × Showable (settingIn (now desc) (now fixed)) field (now code) place state ⌝ }
+    ensures { λ r. ⌜ ShownWalks (now (desc .entry)) (now (fixed .entry)) (now (code .entry)) place state (now (rows .entry)) r (now (rows .exit)) field index ⌝ }
 {
     let width = width_of(field);
+    let used = state.used;
+    let context = state.context;
     let look = fields::look_of(field.look);
     match look {
         Look::Number { signed, base: _ } => {
-            put_number(field, signed, index, value, place, rows, used);
+            put_number(field, signed, index, code, context, place, rows, used);
             Walked::Done {
-                used: used + 1,
+                state: one_more(state),
                 length: width,
             }
         }
         Look::Name => {
+            let value = fields::value(field, code, context);
             let name = (field.first as usize) + (value as usize);
-            let found = sections::name_at(desc, layout, name);
+            let found = setting::name(desc, fixed, name);
             if found.length == 0 {
                 return Walked::Refused(Refusal::Hole(place));
             }
             put_row(rows, used, 2, wide(index), place, name as i64, 1);
             Walked::Done {
-                used: used + 1,
+                state: one_more(state),
                 length: width,
             }
         }
@@ -163,68 +178,64 @@ fn show(
 // The field at a place, with the code from there on.
 fn field_from(
     desc: &[u8],
-    layout: Layout,
-    context: u32,
+    fixed: &[usize; FIXED],
     index: u8,
     code: &[u8],
     place: usize,
-    total: usize,
     rows: &mut [i64],
-    used: usize,
+    state: State,
 ) -> Walked
-    requires { ⌜ Formed (now desc) layout ⌝ }
-    requires { ⌜ (index < layout .fields .count) × (place < 512) × (length (now code) ≡ total - place) ⌝ }
-    requires { ⌜ (length (now rows) ≡ scratchLength) × (used ≤ mostRows) ⌝ }
-    ensures { λ r. ⌜ WalksTo rowsOf (fieldFrom (description (now (desc .entry)) layout) context total (getD (fieldsOf (now (desc .entry)) layout) index noField) index (now (code .entry)) place used) r used (now (rows .entry)) (now (rows .exit)) ⌝ }
-    ensures { λ r. ⌜ Within place used r ⌝ }
+    requires { ⌜ Ready (index < length (settingIn (now desc) (now fixed) .description .fields)) (now desc) (now fixed) (now code) place state ⌝ }
+    ensures { λ r. ⌜ FieldWalks (now (desc .entry)) (now (fixed .entry)) (now (code .entry)) place state (now (rows .entry)) r (now (rows .exit)) index ⌝ }
 {
-    if format::ROWS <= used {
-        return Walked::Refused(Refusal::ManyRows);
+    if format::ROWS <= state.used {
+        return Walked::Refused(Refusal::TooManyRows);
     }
-    let field = sections::field_at(desc, layout, wide(index));
+    let field = setting::field(desc, fixed, wide(index));
     let end = place + width_of(field);
     if (LONGEST < place) | (LONGEST < end) {
-        return Walked::Refused(Refusal::Far(place));
+        return Walked::Refused(Refusal::TooFar(place));
     }
-    if total < end {
+    if fixed[setting::TOTAL] < end {
         return Walked::Refused(Refusal::Short(place));
     }
-    let value = fields::value(field, code, context);
-    show(desc, layout, field, index, value, place, rows, used)
+    show(desc, fixed, field, index, code, place, rows, state)
 }
 
 // A constructor after its operands: its length, and its row before theirs.
 fn close(
+    fixed: &[usize; FIXED],
     number: usize,
     minimum: usize,
     at: usize,
-    total: usize,
     rows: &mut [i64],
     used: usize,
     walked: Walked,
 ) -> Walked
-    requires { ⌜ (number < 65536) × (minimum < 256) × (at ≤ longest) ⌝ }
-    requires { ⌜ (length (now rows) ≡ scratchLength) × (used < mostRows) ⌝ }
+    requires { ⌜ (number < 65536) × (minimum < 256) × (at ≤ longest) × (used < mostRows) ⌝ }
     requires { ⌜ Within at (used + 1) walked ⌝ }
-    ensures { λ r. ⌜ Closes total number minimum at used walked (now (rows .entry)) r (now (rows .exit)) ⌝ }
-    ensures { λ r. ⌜ Within at used r ⌝ }
+    ensures { λ r. ⌜ Closes (getD (now (fixed .entry)) totalPlace 0) number minimum at used walked (now (rows .entry)) r (now (rows .exit)) ⌝ }
 {
     match walked {
         Walked::Refused(refusal) => Walked::Refused(refusal),
-        Walked::Done {
-            used: next,
-            length: far,
-        } => {
+        Walked::Done { state, length: far } => {
             let length = larger(minimum, far);
             let end = at + length;
             if LONGEST < end {
-                return Walked::Refused(Refusal::Far(at));
+                return Walked::Refused(Refusal::TooFar(at));
             }
-            if total < end {
+            if fixed[setting::TOTAL] < end {
                 return Walked::Refused(Refusal::Short(at));
             }
-            put_row(rows, used, 0, number, at, length as i64, next - used);
-            Walked::Done { used: next, length }
+            let last = length as i64;
+            let size = state.used - used;
+            put_row(rows, used, 0, number, at, last, size);
+            let mut then = state;
+            then.taken = number;
+            Walked::Done {
+                state: then,
+                length,
+            }
         }
     }
 }
@@ -232,105 +243,59 @@ fn close(
 // An operand that starts so far behind its constructor; past the code's end that is no bytes.
 fn walk_operand(
     desc: &[u8],
-    layout: Layout,
-    starts: &[usize; tables::STARTS],
-    context: u32,
+    fixed: &[usize; FIXED],
     operand: Operand,
     code: &[u8],
     at: usize,
     start: usize,
-    total: usize,
     rows: &mut [i64],
-    used: usize,
+    state: State,
 ) -> Walked
-    requires { ⌜ Formed (now desc) layout ⌝ }
-    requires { ⌜ Starts (description (now desc) layout) (now starts) ⌝ }
-    requires { ⌜ Placed (description (now desc) layout) operand ⌝ }
-    requires { ⌜ (at ≤ longest) × (start < 400) × (length (now code) ≡ total - at) ⌝ }
-    requires { ⌜ (length (now rows) ≡ scratchLength) × (used ≤ mostRows) ⌝ }
-    ensures { λ r. ⌜ ((depth : ℕ) → mostRows < used + depth → WalksTo rowsOf (operandFrom (description (now (desc .entry)) layout) context total (walkFrom (description (now (desc .entry)) layout) context total depth) operand (now (code .entry)) at start used) r used (now (rows .entry)) (now (rows .exit))) ⌝ }
-    ensures { λ r. ⌜ Within (at + start) used r ⌝ }
+    requires { ⌜ Ready (PlacedAt (now desc) (now fixed) operand at start) (now desc) (now fixed) (now code) at state ⌝ }
+    ensures { λ r. ⌜ OperandWalks (now (desc .entry)) (now (fixed .entry)) (now (code .entry)) at state (now (rows .entry)) r (now (rows .exit)) operand start ⌝ }
 {
     let from = smaller(start, code.len());
     let place = at + start;
     if operand.kind == 0 {
-        return field_from(
-            desc,
-            layout,
-            context,
-            operand.index,
-            &code[from..],
-            place,
-            total,
-            rows,
-            used,
-        );
+        return field_from(desc, fixed, operand.index, &code[from..], place, rows, state);
     }
-    walk_table(
-        desc,
-        layout,
-        starts,
-        context,
-        operand.index,
-        &code[from..],
-        place,
-        total,
-        rows,
-        used,
-    )
+    walk_table(desc, fixed, operand.index, &code[from..], place, rows, state)
 }
 
-// A constructor's operands in order: the rows used, and the farthest end from the constructor's start.
+// A constructor's operands in order: the state behind them, and the farthest end from the constructor's start.
 fn walk_operands(
     desc: &[u8],
-    layout: Layout,
-    starts: &[usize; tables::STARTS],
-    context: u32,
+    fixed: &[usize; FIXED],
     constructor: Constructor,
     code: &[u8],
     at: usize,
-    total: usize,
     rows: &mut [i64],
-    used: usize,
+    state: State,
 ) -> Walked
-    requires { ⌜ Formed (now desc) layout ⌝ }
-    requires { ⌜ Starts (description (now desc) layout) (now starts) ⌝ }
-    requires { ⌜ Usable (description (now desc) layout) constructor ⌝ }
-    requires { ⌜ (at ≤ longest) × (length (now code) ≡ total - at) ⌝ }
-    requires { ⌜ (length (now rows) ≡ scratchLength) × (used ≤ mostRows) ⌝ }
-    ensures { λ r. ⌜ ((depth : ℕ) → mostRows < used + depth → WalksTo rowsOfAll (operandsFrom (description (now (desc .entry)) layout) context total (walkFrom (description (now (desc .entry)) layout) context total depth) (constructor .operands .first) (now (code .entry)) at (constructor .operands .count) 0 (replicate (operandsEach + 1) 0) 0 used) r used (now (rows .entry)) (now (rows .exit))) ⌝ }
-    ensures { λ r. ⌜ Within at used r ⌝ }
+    requires { ⌜ Ready (UsableAt (now desc) (now fixed) constructor at) (now desc) (now fixed) (now code) at state ⌝ }
+    ensures { λ r. ⌜ OperandsWalk (now (desc .entry)) (now (fixed .entry)) (now (code .entry)) at state (now (rows .entry)) r (now (rows .exit)) constructor ⌝ }
 {
     let first = constructor.operands.first as usize;
     let count = wide(constructor.operands.count);
     let mut ends = [0usize; ENDS];
     let mut far = 0;
-    let mut next = used;
+    let mut passed = state;
     let mut o = 0;
     while o < count {
-        let operand = sections::operand_at(desc, layout, first + o);
+        let operand = setting::operand(desc, fixed, first + o);
         let anchor = wide(operand.anchor);
         let start = ends[anchor] + wide(operand.offset);
-        let walked = walk_operand(
-            desc,
-            layout,
-            starts,
-            context,
-            operand,
-            code,
-            at,
-            start,
-            total,
-            rows,
-            next,
-        );
+        let walked = walk_operand(desc, fixed, operand, code, at, start, rows, passed);
         match walked {
             Walked::Refused(refusal) => {
                 return Walked::Refused(refusal);
             }
-            Walked::Done { used: then, length } => {
+            Walked::Done {
+                state: then,
+                length,
+            } => {
                 let end = start + length;
-                next = then;
+                passed = then;
                 o += 1;
                 ends[o] = end;
                 far = larger(far, end);
@@ -338,7 +303,7 @@ fn walk_operands(
         }
     }
     Walked::Done {
-        used: next,
+        state: passed,
         length: far,
     }
 }
@@ -346,129 +311,119 @@ fn walk_operands(
 // The constructor of this number, with its operands.
 fn walk_constructor(
     desc: &[u8],
-    layout: Layout,
-    starts: &[usize; tables::STARTS],
-    context: u32,
+    fixed: &[usize; FIXED],
     number: usize,
     code: &[u8],
     at: usize,
-    total: usize,
     rows: &mut [i64],
-    used: usize,
+    state: State,
 ) -> Walked
-    requires { ⌜ Formed (now desc) layout ⌝ }
-    requires { ⌜ Starts (description (now desc) layout) (now starts) ⌝ }
-    requires { ⌜ (number < layout .constructors .count) × (at ≤ longest) × (length (now code) ≡ total - at) ⌝ }
-    requires { ⌜ (length (now rows) ≡ scratchLength) × (used < mostRows) ⌝ }
-    ensures { λ r. ⌜ ((depth : ℕ) → mostRows < used + 1 + depth → WalksTo rowsOf (constructorFrom (description (now (desc .entry)) layout) context total (walkFrom (description (now (desc .entry)) layout) context total depth) number (getD (constructorsOf (now (desc .entry)) layout) number noConstructor) (now (code .entry)) at used) r used (now (rows .entry)) (now (rows .exit))) ⌝ }
-    ensures { λ r. ⌜ Within at used r ⌝ }
+    requires { ⌜ Ready (ConstructorAt (now desc) (now fixed) number at state) (now desc) (now fixed) (now code) at state ⌝ }
+    ensures { λ r. ⌜ ConstructorWalks (now (desc .entry)) (now (fixed .entry)) (now (code .entry)) at state (now (rows .entry)) r (now (rows .exit)) number ⌝ }
 {
-    let constructor = sections::constructor_at(desc, layout, number);
-    let walked = walk_operands(
-        desc,
-        layout,
-        starts,
-        context,
-        constructor,
-        code,
-        at,
-        total,
-        rows,
-        used + 1,
-    );
-    close(
-        number,
-        wide(constructor.minimum),
-        at,
-        total,
-        rows,
-        used,
-        walked,
-    )
+    let constructor = setting::constructor(desc, fixed, number);
+    let walked = walk_operands(desc, fixed, constructor, code, at, rows, one_more(state));
+    let minimum = wide(constructor.minimum);
+    close(fixed, number, minimum, at, rows, state.used, walked)
 }
 
 // A table at its place, with the code from there on.
 fn walk_table(
     desc: &[u8],
-    layout: Layout,
-    starts: &[usize; tables::STARTS],
-    context: u32,
+    fixed: &[usize; FIXED],
     table: u8,
     code: &[u8],
     at: usize,
-    total: usize,
     rows: &mut [i64],
-    used: usize,
+    state: State,
 ) -> Walked
-    requires { ⌜ Formed (now desc) layout ⌝ }
-    requires { ⌜ Starts (description (now desc) layout) (now starts) ⌝ }
-    requires { ⌜ (table < tables) × (at < 512) × (length (now code) ≡ total - at) ⌝ }
-    requires { ⌜ (length (now rows) ≡ scratchLength) × (used ≤ mostRows) ⌝ }
-    ensures { λ r. ⌜ ((depth : ℕ) → mostRows < used + depth → WalksTo rowsOf (walkFrom (description (now (desc .entry)) layout) context total depth table (now (code .entry)) at used) r used (now (rows .entry)) (now (rows .exit))) ⌝ }
-    ensures { λ r. ⌜ Within at used r ⌝ }
+    requires { ⌜ Ready (table < tables) (now desc) (now fixed) (now code) at state ⌝ }
+    ensures { λ r. ⌜ TableWalks (now (desc .entry)) (now (fixed .entry)) (now (code .entry)) at state (now (rows .entry)) r (now (rows .exit)) table ⌝ }
 {
-    if format::ROWS <= used {
-        return Walked::Refused(Refusal::ManyRows);
+    if format::ROWS <= state.used {
+        return Walked::Refused(Refusal::TooManyRows);
     }
     if LONGEST < at {
-        return Walked::Refused(Refusal::Far(at));
+        return Walked::Refused(Refusal::TooFar(at));
     }
-    let range = tables::table_by(starts, table);
-    let choice = choosing::choose_in(desc, layout, range, code, context);
+    let choice = setting::choose_at(desc, fixed, table, code, state.context);
     match choice {
         Choice::Short => Walked::Refused(Refusal::Short(at)),
         Choice::NoMatch => Walked::Refused(Refusal::NoMatch { place: at, table }),
-        Choice::Taken(j) => walk_constructor(
-            desc,
-            layout,
-            starts,
-            context,
-            range.first + j,
-            code,
-            at,
-            total,
-            rows,
-            used,
-        ),
+        Choice::Taken(number) => walk_constructor(desc, fixed, number, code, at, rows, state),
         Choice::Ambiguous => Walked::Refused(Refusal::Ambiguous { place: at, table }),
     }
 }
 
 // The instruction at the code's start: the root, with all of the code.
-pub fn walk_root(
+fn walk_root(
     desc: &[u8],
-    layout: Layout,
-    starts: &[usize; tables::STARTS],
+    fixed: &[usize; FIXED],
     context: u32,
     code: &[u8],
     rows: &mut [i64],
 ) -> Walked
-    requires { ⌜ Formed (now desc) layout ⌝ }
-    requires { ⌜ Starts (description (now desc) layout) (now starts) ⌝ }
-    requires { ⌜ length (now rows) ≡ scratchLength ⌝ }
-    ensures { λ r. ⌜ WalksTo rowsOf (instructionOf (description (now (desc .entry)) layout) context (now (code .entry))) r 0 (now (rows .entry)) (now (rows .exit)) ⌝ }
-    ensures { λ r. ⌜ Within 0 0 r ⌝ }
+    requires { ⌜ Fixed (now desc) (now fixed) × (length (now code) ≡ settingIn (now desc) (now fixed) .total) ⌝ }
+    ensures { λ r. ⌜ RootWalks (now (desc .entry)) (now (fixed .entry)) context (now (code .entry)) (now (rows .entry)) r (now (rows .exit)) ⌝ }
 {
-    let root = tables::root(desc, layout);
-    let walked = walk_table(
-        desc,
-        layout,
-        starts,
+    let root = setting::root(desc, fixed);
+    let start = State {
+        used: 0,
         context,
-        root,
-        code,
-        0,
-        code.len(),
-        rows,
-        0,
-    );
+        taken: 0,
+    };
+    let walked = walk_table(desc, fixed, root, code, 0, rows, start);
     match walked {
         Walked::Refused(refusal) => Walked::Refused(refusal),
-        Walked::Done { used, length } => {
+        Walked::Done { state, length } => {
             if length == 0 {
-                return Walked::Refused(Refusal::Empty);
+                return Walked::Refused(Refusal::RootLengthZero);
             }
-            Walked::Done { used, length }
+            Walked::Done { state, length }
         }
+    }
+}
+
+// The instruction at a place of the code, without its rows: for sweeps.
+pub fn step_at(
+    desc: &[u8],
+    fixed: &mut [usize; FIXED],
+    context: u32,
+    code: &[u8],
+    at: usize,
+) -> Walked
+    requires { ⌜ Fixed (now desc) (now fixed) × (at ≤ length (now code)) ⌝ }
+    ensures { λ r. ⌜ r ≡ answerOf (resultAt (now (desc .entry)) (now (fixed .entry)) (now (code .entry)) at context) ⌝ }
+    ensures { λ _. ⌜ now (fixed .exit) ≡ toldLength (now (fixed .entry)) (now (code .entry)) at ⌝ }
+{
+    fixed[setting::TOTAL] = code.len() - at;
+    let mut none = [0i64; 1];
+    walk_root(desc, fixed, context, &code[at..], &mut none)
+}
+
+// The instruction at a place of the code, with its rows.
+pub fn decode_at(
+    desc: &[u8],
+    fixed: &mut [usize; FIXED],
+    context: u32,
+    code: &[u8],
+    at: usize,
+) -> Instruction
+    requires { ⌜ Fixed (now desc) (now fixed) × (at ≤ length (now code)) ⌝ }
+    ensures { λ r. ⌜ r ≡ instructionAs (resultAt (now (desc .entry)) (now (fixed .entry)) (now (code .entry)) at context) ⌝ }
+    ensures { λ _. ⌜ now (fixed .exit) ≡ toldLength (now (fixed .entry)) (now (code .entry)) at ⌝ }
+{
+    fixed[setting::TOTAL] = code.len() - at;
+    let mut rows = [0i64; SCRATCH];
+    let walked = walk_root(desc, fixed, context, &code[at..], &mut rows);
+    match walked {
+        Walked::Refused(refusal) => Instruction {
+            rows: [0i64; SCRATCH],
+            walked: Walked::Refused(refusal),
+        },
+        Walked::Done { state, length } => Instruction {
+            rows,
+            walked: Walked::Done { state, length },
+        },
     }
 }

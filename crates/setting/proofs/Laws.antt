@@ -1,0 +1,97 @@
+-- The numbers of a description, read back; a table's range by them, and the choice in it.
+use Prim.Native.Nat.{ℕ, _+_, _-_, _≤_, _<_}
+use mathlib.Core.Bool.{Bool, true, false}
+use mathlib.Core.List.{List}
+use mathlib.Core.Path.{_≡_, refl, sym, ap, _∙_}
+use native.Mathlib.Omega.{arith}
+use lib.ListN.{length, getD, drop, set}
+use lib.Seq.{getD-drop, drop-set-lt, getD-set-same, getD-set-other}
+use Rattle.lists.proofs.Tab.{tab-at}
+use Rattle.format.specs.Numbers.{tables, mostConstructors}
+use Rattle.format.specs.Check.{Formed}
+use Rattle.format.specs.Description.{Description, description}
+use Rattle.format.specs.Tables.{tableFirst, tableEnd}
+use Rattle.format.specs.declared.Layout.{Layout}
+use Rattle.format.proofs.Formation.{Obeyed, obeyed}
+use Rattle.format.proofs.Lists.{constructors-length}
+use Rattle.format.proofs.Tables.{end-is, first-within}
+use Rattle.tables.specs.Starts.{Starts}
+use Rattle.tables.specs.declared.Table.{Table}
+use Rattle.tables.proofs.Range.{in-section}
+use Rattle.choice.specs.Choosing.{choose}
+use Rattle.choice.specs.declared.Choice.{Choice}
+use Rattle.choice.specs.declared.Choice.the-variants as choice
+use Rattle.choosing.specs.Table.{patternFrom}
+use Rattle.choosing_facts.proofs.Taken.{taken-facts}
+use Rattle.decoding_spec.specs.State.{Setting}
+use Rattle.decoding_spec.specs.Walk.{numberedFrom, choiceIn}
+use Rattle.setting.specs.Fixed.{totalPlace, gatheredPlace, startsPlace, flag, startsOf, fixedOf, layoutIn, settingIn, Fixed}
+use Rattle.setting.specs.Ranges.{RangeOf}
+
+-- each record obeys its rules
+pub obeyed-in : (b a : List ℕ) → Fixed b a → Obeyed (settingIn b a .description)
+unfolding settingIn
+obeyed-in b a f = obeyed b (layoutIn a) (f .formed)
+
+pub some-in : (b a : List ℕ) → Fixed b a → 1 ≤ length (settingIn b a .description .constructors)
+unfolding settingIn
+some-in b a f = rw (constructors-length b (layoutIn a)) (f .formed .room .some)
+
+pub few-in : (b a : List ℕ) → Fixed b a → length (settingIn b a .description .constructors) ≤ mostConstructors
+unfolding settingIn
+few-in b a f = rw (constructors-length b (layoutIn a)) (f .formed .room .few)
+
+-- the numbers that `fill` makes are those of their description
+pub fixed-of : (b : List ℕ) (l : Layout) (gather : Bool) → Formed b l → Fixed b (fixedOf (description b l) l gather)
+unfolding fixedOf
+fixed-of b l true f = record { formed = f; gathered = λ z. record { at = λ t h. tab-at (tableFirst (description b l)) (tables + 1) t 0 (omega arith) } }
+fixed-of b l false f = record { formed = f; gathered = λ z. absurd (omega arith) }
+
+pub setting-of : (b : List ℕ) (l : Layout) (gather : Bool) → settingIn b (fixedOf (description b l) l gather) .description ≡ description b l
+unfolding fixedOf settingIn
+setting-of b l gather = refl
+
+-- told an input's length
+module _ (b a : List ℕ) (n : ℕ) where
+  other : (k : ℕ) → (k ≡ totalPlace → ⊥) → getD (set a totalPlace n) k 0 ≡ getD a k 0
+  other k h = getD-set-other a totalPlace k n 0 h
+
+  layout-for : layoutIn (set a totalPlace n) ≡ layoutIn a
+  layout-for =
+      rw (other 0 (λ e. omega arith), other 1 (λ e. omega arith), other 2 (λ e. omega arith), other 3 (λ e. omega arith), other 4 (λ e. omega arith), other 5 (λ e. omega arith), other 6 (λ e. omega arith), other 7 (λ e. omega arith), other 8 (λ e. omega arith), other 9 (λ e. omega arith), other 10 (λ e. omega arith), other 11 (λ e. omega arith))
+
+  pub fixed-for : Fixed b a → Fixed b (set a totalPlace n)
+  fixed-for f =
+      record {
+        formed = rw layout-for (f .formed);
+        gathered = λ z. rw (layout-for, drop-set-lt startsPlace a totalPlace n (omega arith)) (f .gathered (rw (other gatheredPlace (λ e. omega arith)) at z));
+      }
+
+  pub setting-for : totalPlace < length a → settingIn b (set a totalPlace n) ≡ record { description = settingIn b a .description; total = n }
+  unfolding settingIn
+  setting-for h = rw (layout-for, getD-set-same a totalPlace n 0 h)
+
+module _ (d : Description) (o : Obeyed d) (t : ℕ) (low : t < tables) (a : List ℕ) (starts : Starts d (drop startsPlace a)) where
+  here : getD a (startsPlace + t) 0 ≡ tableFirst d t
+  here = sym (getD-drop startsPlace a t 0) ∙ starts .at t (omega arith)
+
+  next : getD a (startsPlace + t + 1) 0 ≡ tableEnd d t
+  next = ap (λ (k : ℕ). getD a k 0) (omega arith) ∙ sym (getD-drop startsPlace a (t + 1) 0) ∙ starts .at (t + 1) (omega arith) ∙ sym (end-is d t)
+
+  pub in-order : getD a (startsPlace + t) 0 ≤ getD a (startsPlace + t + 1) 0
+  in-order = rw (here, next) (first-within d o t)
+
+  pub gathered-range : RangeOf d t (record { first = getD a (startsPlace + t) 0; count = getD a (startsPlace + t + 1) 0 - getD a (startsPlace + t) 0 })
+  gathered-range = record { first = here; count = rw (here, next) }
+
+module _ (d : Description) (o : Obeyed d) (t : ℕ) (r : Table) (range : RangeOf d t r) where
+  pub range-inside : r .first + r .count ≤ length (d .constructors)
+  range-inside = in-section d o t (r .first) (r .count) (range .first) (range .count)
+
+  module _ (s : List ℕ) (c : ℕ) where
+    pub chosen : (q : Choice) → choose (patternFrom d (r .first)) (r .count) s c ≡ q → numberedFrom (r .first) q ≡ choiceIn d t s c
+    unfolding choiceIn
+    chosen q e = rw (← e, range .count, range .first)
+
+    pub taken-inside : (j : ℕ) → choose (patternFrom d (r .first)) (r .count) s c ≡ choice.Taken j → r .first + j < length (d .constructors)
+    taken-inside j e = omega (arith, taken-facts (patternFrom d (r .first)) (r .count) s c j e .within, range-inside)

@@ -1,0 +1,3 @@
+-- Laws of what is fixed along a walk.
+pub mod Copying
+pub mod Laws

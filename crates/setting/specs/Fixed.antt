@@ -1,0 +1,71 @@
+-- What is fixed along a walk, as one list of numbers: the sections' places and counts, the input's length, whether the tables' first
+-- constructors were gathered, and these.
+use Prim.Native.Nat.{ℕ, _+_, _<_}
+use mathlib.Core.Bool.{Bool, true, false}
+use mathlib.Core.List.{List, [], _∷_, _++_}
+use mathlib.Core.Path.{_≡_}
+use lib.ListN.{getD, drop, replicate}
+use Rattle.lists.specs.Tab.{tab}
+use Rattle.format.specs.Numbers.{tables}
+use Rattle.format.specs.Check.{Formed}
+use Rattle.format.specs.Description.{Description, description}
+use Rattle.format.specs.Tables.{tableFirst}
+use Rattle.format.specs.declared.Section.{Section}
+use Rattle.format.specs.declared.Layout.{Layout}
+use Rattle.tables.specs.Starts.{Starts}
+use Rattle.decoding_spec.specs.State.{Setting}
+
+abbrev pub sectionNumbers : Section → List ℕ → List ℕ
+sectionNumbers s rest = s .start ∷ s .count ∷ rest
+
+-- where the input's length stands, whether the first constructors were gathered, and where these start
+abbrev pub totalPlace : ℕ
+totalPlace = 12
+
+abbrev pub gatheredPlace : ℕ
+gatheredPlace = 13
+
+abbrev pub startsPlace : ℕ
+startsPlace = 14
+
+abbrev pub flag : Bool → ℕ
+flag true = 1
+flag false = 0
+
+-- gathered: the first constructor of each table, and the section's count behind the last
+abbrev pub startsOf : Description → Bool → List ℕ
+startsOf d true = tab (tableFirst d) (tables + 1)
+startsOf d false = replicate (tables + 1) 0
+
+-- the numbers for a description with these places, before a walk is told its input's length
+unfoldable pub fixedOf : Description → Layout → Bool → List ℕ
+fixedOf d l gather =
+    sectionNumbers (l .fields)
+    (sectionNumbers (l .names)
+    (sectionNumbers (l .constructors)
+    (sectionNumbers (l .operands)
+    (sectionNumbers (l .pieces) (sectionNumbers (l .text) (0 ∷ flag gather ∷ startsOf d gather))))))
+
+-- read back
+abbrev pub sectionIn : List ℕ → ℕ → Section
+sectionIn a k = record { start = getD a k 0; count = getD a (k + 1) 0 }
+
+abbrev pub layoutIn : List ℕ → Layout
+layoutIn a =
+    record {
+      fields = sectionIn a 0;
+      names = sectionIn a 2;
+      constructors = sectionIn a 4;
+      operands = sectionIn a 6;
+      pieces = sectionIn a 8;
+      text = sectionIn a 10;
+    }
+
+-- the setting that bytes b as the description and these numbers are
+unfoldable pub settingIn : List ℕ → List ℕ → Setting
+settingIn b a = record { description = description b (layoutIn a); total = getD a totalPlace 0 }
+
+-- the numbers are those of a well-formed description
+pub record Fixed (b a : List ℕ) : Type 0 where
+  pub formed : Formed b (layoutIn a)
+  pub gathered : getD a gatheredPlace 0 ≡ 1 → Starts (description b (layoutIn a)) (drop startsPlace a)

@@ -1,0 +1,3 @@
+-- What is fixed along a walk.
+pub mod Fixed
+pub mod Ranges

@@ -1,0 +1,193 @@
+// What is fixed along a walk, as numbers behind one reference, and what is read through it.
+use choice::Choice;
+use format::Constructor;
+use format::Field;
+use format::Layout;
+use format::Name;
+use format::Operand;
+use format::Piece;
+use format::Section;
+use tables::Table;
+
+ghost use mathlib.Core.List.{_++_};
+ghost use mathlib.Core.Path.{_≡_};
+ghost use Prim.Native.Nat.{_+_, _-_, _<_};
+ghost use lib.ListN.{length, getD, take, set};
+ghost use Rattle.format.specs.Numbers.{tables};
+ghost use Rattle.format.specs.Check.{Formed};
+ghost use Rattle.format.specs.Description.{description, noField, noName, noConstructor, noOperand, noPiece};
+ghost use Rattle.format.specs.Tables.{rootOf};
+ghost use Rattle.tables.specs.Starts.{Starts};
+ghost use Rattle.decoding_spec.specs.Walk.{choiceIn};
+ghost use mathlib.Core.Bool.{true};
+ghost use Rattle.setting.specs.Fixed.{startsOf, fixedOf, layoutIn, settingIn, Fixed, totalPlace, startsPlace};
+ghost use Rattle.setting.specs.Ranges.{RangeOf};
+
+// Where the input's length stands, whether the tables' first constructors were gathered, and where these start.
+pub const TOTAL: usize = 12;
+
+const GATHERED: usize = 13;
+
+const STARTS: usize = 14;
+
+pub const FIXED: usize = STARTS + tables::STARTS;
+
+pub fn layout_of(fixed: &[usize; FIXED]) -> Layout
+    ensures { λ r. ⌜ r ≡ layoutIn (now (fixed .entry)) ⌝ }
+{
+    let fields = Section {
+        start: fixed[0],
+        count: fixed[1],
+    };
+    let names = Section {
+        start: fixed[2],
+        count: fixed[3],
+    };
+    let constructors = Section {
+        start: fixed[4],
+        count: fixed[5],
+    };
+    let operands = Section {
+        start: fixed[6],
+        count: fixed[7],
+    };
+    let pieces = Section {
+        start: fixed[8],
+        count: fixed[9],
+    };
+    let text = Section {
+        start: fixed[10],
+        count: fixed[11],
+    };
+    Layout {
+        fields,
+        names,
+        constructors,
+        operands,
+        pieces,
+        text,
+    }
+}
+
+// The first constructors behind the other numbers.
+fn with_starts(desc: &[u8], layout: Layout, fixed: [usize; FIXED]) -> [usize; FIXED]
+    requires { ⌜ Formed (now desc) layout ⌝ }
+    ensures { λ r. ⌜ r ≡ take startsPlace fixed ++ startsOf (description (now (desc .entry)) layout) true ⌝ }
+{
+    let starts = tables::starts(desc, layout);
+    let mut all = fixed;
+    let mut t = 0;
+    while t < tables::STARTS {
+        all[STARTS + t] = starts[t];
+        t += 1;
+    }
+    all
+}
+
+// The numbers for a description; whoever asks for tables many times has their first constructors gathered.
+pub fn fill(desc: &[u8], layout: Layout, gather: bool) -> [usize; FIXED]
+    requires { ⌜ Formed (now desc) layout ⌝ }
+    ensures { λ r. ⌜ r ≡ fixedOf (description (now (desc .entry)) layout) layout gather ⌝ }
+{
+    let mut fixed = [0usize; FIXED];
+    fixed[0] = layout.fields.start;
+    fixed[1] = layout.fields.count;
+    fixed[2] = layout.names.start;
+    fixed[3] = layout.names.count;
+    fixed[4] = layout.constructors.start;
+    fixed[5] = layout.constructors.count;
+    fixed[6] = layout.operands.start;
+    fixed[7] = layout.operands.count;
+    fixed[8] = layout.pieces.start;
+    fixed[9] = layout.pieces.count;
+    fixed[10] = layout.text.start;
+    fixed[11] = layout.text.count;
+    if gather {
+        fixed[GATHERED] = 1;
+        return with_starts(desc, layout, fixed);
+    }
+    fixed
+}
+
+pub fn field(desc: &[u8], fixed: &[usize; FIXED], i: usize) -> Field
+    requires { ⌜ Fixed (now desc) (now fixed) × (i < length (settingIn (now desc) (now fixed) .description .fields)) ⌝ }
+    ensures { λ r. ⌜ r ≡ getD (settingIn (now (desc .entry)) (now (fixed .entry)) .description .fields) i noField ⌝ }
+{
+    sections::field_at(desc, layout_of(fixed), i)
+}
+
+pub fn name(desc: &[u8], fixed: &[usize; FIXED], i: usize) -> Name
+    requires { ⌜ Fixed (now desc) (now fixed) × (i < length (settingIn (now desc) (now fixed) .description .names)) ⌝ }
+    ensures { λ r. ⌜ r ≡ getD (settingIn (now (desc .entry)) (now (fixed .entry)) .description .names) i noName ⌝ }
+{
+    sections::name_at(desc, layout_of(fixed), i)
+}
+
+pub fn constructor(desc: &[u8], fixed: &[usize; FIXED], i: usize) -> Constructor
+    requires { ⌜ Fixed (now desc) (now fixed) × (i < length (settingIn (now desc) (now fixed) .description .constructors)) ⌝ }
+    ensures { λ r. ⌜ r ≡ getD (settingIn (now (desc .entry)) (now (fixed .entry)) .description .constructors) i noConstructor ⌝ }
+{
+    sections::constructor_at(desc, layout_of(fixed), i)
+}
+
+pub fn operand(desc: &[u8], fixed: &[usize; FIXED], i: usize) -> Operand
+    requires { ⌜ Fixed (now desc) (now fixed) × (i < length (settingIn (now desc) (now fixed) .description .operands)) ⌝ }
+    ensures { λ r. ⌜ r ≡ getD (settingIn (now (desc .entry)) (now (fixed .entry)) .description .operands) i noOperand ⌝ }
+{
+    sections::operand_at(desc, layout_of(fixed), i)
+}
+
+pub fn piece(desc: &[u8], fixed: &[usize; FIXED], i: usize) -> Piece
+    requires { ⌜ Fixed (now desc) (now fixed) × (i < length (settingIn (now desc) (now fixed) .description .pieces)) ⌝ }
+    ensures { λ r. ⌜ r ≡ getD (settingIn (now (desc .entry)) (now (fixed .entry)) .description .pieces) i noPiece ⌝ }
+{
+    sections::piece_at(desc, layout_of(fixed), i)
+}
+
+pub fn root(desc: &[u8], fixed: &[usize; FIXED]) -> u8
+    requires { ⌜ Fixed (now desc) (now fixed) ⌝ }
+    ensures { λ r. ⌜ r ≡ rootOf (settingIn (now (desc .entry)) (now (fixed .entry)) .description) ⌝ }
+{
+    tables::root(desc, layout_of(fixed))
+}
+
+// A table's constructors, by the gathered numbers where there are any.
+fn range_of(desc: &[u8], fixed: &[usize; FIXED], t: u8) -> Table
+    requires { ⌜ Fixed (now desc) (now fixed) × (t < tables) ⌝ }
+    ensures { λ r. ⌜ RangeOf (settingIn (now (desc .entry)) (now (fixed .entry)) .description) t r ⌝ }
+{
+    if fixed[GATHERED] == 1 {
+        let at = STARTS + (t as usize);
+        let first = fixed[at];
+        let end = fixed[at + 1];
+        return Table {
+            first,
+            count: end - first,
+        };
+    }
+    tables::table_of(desc, layout_of(fixed), t as u32)
+}
+
+// The choice in a table, by the number of the constructor taken.
+pub fn choose_at(
+    desc: &[u8],
+    fixed: &[usize; FIXED],
+    table: u8,
+    code: &[u8],
+    context: u32,
+) -> Choice
+    requires { ⌜ Fixed (now desc) (now fixed) × (table < tables) ⌝ }
+    ensures { λ r. ⌜ r ≡ choiceIn (settingIn (now (desc .entry)) (now (fixed .entry)) .description) table (now (code .entry)) context ⌝ }
+{
+    let range = range_of(desc, fixed, table);
+    let choice = choosing::choose_in(desc, layout_of(fixed), range, code, context);
+    match choice {
+        Choice::Short => Choice::Short,
+        Choice::NoMatch => Choice::NoMatch,
+        Choice::Taken(j) => {
+            let number = range.first + j;
+            Choice::Taken(number)
+        }
+        Choice::Ambiguous => Choice::Ambiguous,
+    }
+}

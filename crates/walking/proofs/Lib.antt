@@ -1,5 +1,0 @@
--- Laws of the walk.
-mod Putting
-pub mod Steps
-mod Ranges
-mod Turns
