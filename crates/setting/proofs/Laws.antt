@@ -95,3 +95,8 @@ module _ (d : Description) (o : Obeyed d) (t : ℕ) (r : Table) (range : RangeOf
 
     pub taken-inside : (j : ℕ) → choose (patternFrom d (r .first)) (r .count) s c ≡ choice.Taken j → r .first + j < length (d .constructors)
     taken-inside j e = omega (arith, taken-facts (patternFrom d (r .first)) (r .count) s c j e .within, range-inside)
+
+-- the input's length
+pub total-in : (b a : List ℕ) → settingIn b a .total ≡ getD a totalPlace 0
+unfolding settingIn
+total-in b a = refl

@@ -1,4 +1,23 @@
-use Prim.Native.Nat.{ℕ, _<_}
+-- The cycle of the walk: a table calls its constructor, a constructor its operands, those each operand, and an operand its table.
+-- The rows that are left fall. Assumes nothing.
+use Prim.Native.Nat.{ℕ, _<_, _+_, _-_, _*_, _≤_}
+use mathlib.Core.Path.{_≡_, refl, sym, ap, _∙_}
+use native.Mathlib.Omega.{arith}
+use borrow.Author.Needs.{needs}
+use lib.ListN.{length, getD}
+use Rattle.format.specs.Numbers.{mostRows}
+use Rattle.format.specs.declared.Operand.{Operand}
+use Rattle.decoding_spec.specs.Walk.{startOf}
+use Rattle.decoding_spec.specs.declared.State.{State}
+use Rattle.decoding_theorems.proofs.Records.{usable}
+use Rattle.decoding_theorems.proofs.Taken.{takes}
+use Rattle.setting.specs.Fixed.{settingIn}
+use Rattle.setting.proofs.Laws.{obeyed-in, few-in, total-in}
+use Rattle.walking.specs.Walks.{Within}
+use Rattle.walking.specs.declared.Walked.the-variants.{Done}
+use Rattle.walking.proofs.Readiness.{stayed, moved}
+use Rattle.walking.proofs.Steps.{within}
+use Rattle.walking.proofs.Turns.{Turn, first-turn, next-turn, refused-turn, last-turn, operand-field, operand-table, constructor-closes, table-full, table-far, table-refused, table-taken}
 use borrow.Fn.Kinds.{In}
 use borrow.Fn.PlainCycle.{Measures, is, falls, and}
 use Rattle.walking.proofs.walk_constructor.Reads as walk-constructor
@@ -29,17 +48,20 @@ use Rattle.walking.proofs.+walk_constructor+walk_operand+walk_operands+
   close,
 }
 
+abbrev used : State → ℕ
+used st = st .used
+
 abbrev μ-walk-constructor : Measures 4 walk-constructor-kinds.ps ℕ
-μ-walk-constructor κs a = ?
+μ-walk-constructor κs a = 4 * (mostRows + 1 - a .1 .1 .1 .1 .1 .1 .0 .used) - 1
 
 abbrev μ-walk-operand : Measures 4 walk-operand-kinds.ps ℕ
-μ-walk-operand κs a = ?
+μ-walk-operand κs a = 4 * (mostRows + 1 - a .1 .1 .1 .1 .1 .1 .1 .0 .used) + 1
 
 abbrev μ-walk-operands : Measures 4 walk-operands-kinds.ps ℕ
-μ-walk-operands κs a = ?
+μ-walk-operands κs a = 4 * (mostRows + 1 - a .1 .1 .1 .1 .1 .1 .0 .used) + 2
 
 abbrev μ-walk-table : Measures 4 walk-table-kinds.ps ℕ
-μ-walk-table κs a = ?
+μ-walk-table κs a = 4 * (mostRows + 1 - a .1 .1 .1 .1 .1 .1 .0 .used)
 
 abbrev walk-constructor-at : ℕ → In 4 walk-constructor-kinds.ps
 walk-constructor-at t =
@@ -89,702 +111,253 @@ abbrev walk-table-below : ℕ → In 4 walk-table-kinds.ps
 walk-table-below t =
     and 4 walk-table-kinds.ps (falls 4 walk-table-kinds.ps _<_ μ-walk-table t) walk-table.Pre
 
--- src/lib.rt:324:9
-walk-constructor-constructor-requires : (t : ℕ) → walk-constructor-lts.Need-constructor-requires (
-  constructor-reads.Asked,
-  constructor-reads.Learnt,
-  one-more-reads.Asked,
-  one-more-reads.Learnt,
-  walk-operands-below t,
-  walk-operands.Post,
-  wide-reads.Asked,
-  wide-reads.Learnt,
-  close-reads.Asked,
-  close-reads.Learnt,
-) (walk-constructor-at t) walk-constructor.Post
-walk-constructor-constructor-requires t c κs = ?
+abbrev walk-constructor-claims : ℕ → walk-constructor-lts.Claims
+walk-constructor-claims t = (constructor-reads.Asked, constructor-reads.Learnt, one-more-reads.Asked, one-more-reads.Learnt, walk-operands-below t, walk-operands.Post, wide-reads.Asked, wide-reads.Learnt, close-reads.Asked, close-reads.Learnt)
 
--- src/lib.rt:325:74
-walk-constructor-one-more-requires : (t : ℕ) → walk-constructor-lts.Need-one-more-requires (
-  constructor-reads.Asked,
-  constructor-reads.Learnt,
-  one-more-reads.Asked,
-  one-more-reads.Learnt,
-  walk-operands-below t,
-  walk-operands.Post,
-  wide-reads.Asked,
-  wide-reads.Learnt,
-  close-reads.Asked,
-  close-reads.Learnt,
-) (walk-constructor-at t) walk-constructor.Post
-walk-constructor-one-more-requires t c κs = ?
+abbrev walk-operand-claims : ℕ → walk-operand-lts.Claims
+walk-operand-claims t = (smaller-reads.Asked, smaller-reads.Learnt, field-from-reads.Asked, field-from-reads.Learnt, walk-table-below t, walk-table.Post)
 
--- src/lib.rt:325:9
-walk-constructor-walk-operands-requires :
-    (t : ℕ) → walk-constructor-lts.Need-walk-operands-requires (
-      constructor-reads.Asked,
-      constructor-reads.Learnt,
-      one-more-reads.Asked,
-      one-more-reads.Learnt,
-      walk-operands-below t,
-      walk-operands.Post,
-      wide-reads.Asked,
-      wide-reads.Learnt,
-      close-reads.Asked,
-      close-reads.Learnt,
-    ) (walk-constructor-at t) walk-constructor.Post
-walk-constructor-walk-operands-requires t c κs = ?
+abbrev walk-operands-claims : ℕ → walk-operands-lts.Claims
+walk-operands-claims t = (wide-reads.Asked, wide-reads.Learnt, operand-reads.Asked, operand-reads.Learnt, walk-operand-below t, walk-operand.Post, larger-reads.Asked, larger-reads.Learnt)
 
--- src/lib.rt:326:9
-walk-constructor-wide-requires : (t : ℕ) → walk-constructor-lts.Need-wide-requires (
-  constructor-reads.Asked,
-  constructor-reads.Learnt,
-  one-more-reads.Asked,
-  one-more-reads.Learnt,
-  walk-operands-below t,
-  walk-operands.Post,
-  wide-reads.Asked,
-  wide-reads.Learnt,
-  close-reads.Asked,
-  close-reads.Learnt,
-) (walk-constructor-at t) walk-constructor.Post
-walk-constructor-wide-requires t c κs = ?
+abbrev walk-table-claims : ℕ → walk-table-lts.Claims
+walk-table-claims t = (choose-at-reads.Asked, choose-at-reads.Learnt, walk-constructor-below t, walk-constructor.Post)
 
--- src/lib.rt:327:5
-walk-constructor-close-requires : (t : ℕ) → walk-constructor-lts.Need-close-requires (
-  constructor-reads.Asked,
-  constructor-reads.Learnt,
-  one-more-reads.Asked,
-  one-more-reads.Learnt,
-  walk-operands-below t,
-  walk-operands.Post,
-  wide-reads.Asked,
-  wide-reads.Learnt,
-  close-reads.Asked,
-  close-reads.Learnt,
-) (walk-constructor-at t) walk-constructor.Post
-walk-constructor-close-requires t c κs = ?
+walk-constructor-constructor-requires : (t : ℕ) → walk-constructor-lts.Need-constructor-requires (walk-constructor-claims t) (walk-constructor-at t) walk-constructor.Post
+walk-constructor-constructor-requires t c κs = (c .before .before .pre .1 .fixed, c .before .before .pre .1 .own .within)
 
--- src/lib.rt:312:1
-walk-constructor-same-length : (t : ℕ) → walk-constructor-lts.Need-same-length (
-  constructor-reads.Asked,
-  constructor-reads.Learnt,
-  one-more-reads.Asked,
-  one-more-reads.Learnt,
-  walk-operands-below t,
-  walk-operands.Post,
-  wide-reads.Asked,
-  wide-reads.Learnt,
-  close-reads.Asked,
-  close-reads.Learnt,
-) (walk-constructor-at t) walk-constructor.Post
-walk-constructor-same-length t c = ?
+walk-constructor-one-more-requires : (t : ℕ) → walk-constructor-lts.Need-one-more-requires (walk-constructor-claims t) (walk-constructor-at t) walk-constructor.Post
+walk-constructor-one-more-requires t c κs = c .before .before .before .before .pre .1 .few
 
--- src/lib.rt:312:1
-walk-constructor-returns : (t : ℕ) → walk-constructor-lts.Need-returns (
-  constructor-reads.Asked,
-  constructor-reads.Learnt,
-  one-more-reads.Asked,
-  one-more-reads.Learnt,
-  walk-operands-below t,
-  walk-operands.Post,
-  wide-reads.Asked,
-  wide-reads.Learnt,
-  close-reads.Asked,
-  close-reads.Learnt,
-) (walk-constructor-at t) walk-constructor.Post
-walk-constructor-returns t c = ?
+walk-constructor-walk-operands-requires : (t : ℕ) → walk-constructor-lts.Need-walk-operands-requires (walk-constructor-claims t) (walk-constructor-at t) walk-constructor.Post
+walk-constructor-walk-operands-requires t c κs = 
+    let ready = c .before .before .before .before .before .pre .1 in
+    let more = ap used (c .one-more .ensures) in
+    (omega (arith, c .before .before .before .before .before .pre .0, more, ready .own .room),
+    stayed _ _ _ _ _ ready _ (omega (arith, more, ready .own .room))
+    (record { usable = rw (c .before .before .constructor .ensures) (usable _ (obeyed-in _ _ (ready .fixed)) _ (ready .own .within)); near = ready .own .near }))
 
--- src/lib.rt:257:9
-walk-operand-smaller-requires : (t : ℕ) → walk-operand-lts.Need-smaller-requires (
-  smaller-reads.Asked,
-  smaller-reads.Learnt,
-  field-from-reads.Asked,
-  field-from-reads.Learnt,
-  walk-table-below t,
-  walk-table.Post,
-) (walk-operand-at t) walk-operand.Post
-walk-operand-smaller-requires t c κs = ?
+walk-constructor-wide-requires : (t : ℕ) → walk-constructor-lts.Need-wide-requires (walk-constructor-claims t) (walk-constructor-at t) walk-constructor.Post
+walk-constructor-wide-requires t c κs = search needs
 
--- src/lib.rt:258:17
-walk-operand-add-place : (t : ℕ) → walk-operand-lts.Need-add-place (
-  smaller-reads.Asked,
-  smaller-reads.Learnt,
-  field-from-reads.Asked,
-  field-from-reads.Learnt,
-  walk-table-below t,
-  walk-table.Post,
-) (walk-operand-at t) walk-operand.Post
-walk-operand-add-place t c = ?
+walk-constructor-close-requires : (t : ℕ) → walk-constructor-lts.Need-close-requires (walk-constructor-claims t) (walk-constructor-at t) walk-constructor.Post
+walk-constructor-close-requires t c κs = 
+    let ready = c .before .before .before .before .before .before .before .before .before .pre .1 in
+    ((omega (arith, few-in _ _ (ready .fixed), ready .own .within), c .before .wide .ensures .1, ready .own .near, ready .own .room),
+    rw (c .before .before .before .before .one-more .ensures) at (within _ _ _ _ _ _ _ _ (c .before .before .before .walk-operands .ensures)))
 
--- src/lib.rt:260:55
-walk-operand-sub-field-from : (t : ℕ) → walk-operand-lts.Need-sub-field-from (
-  smaller-reads.Asked,
-  smaller-reads.Learnt,
-  field-from-reads.Asked,
-  field-from-reads.Learnt,
-  walk-table-below t,
-  walk-table.Post,
-) (walk-operand-at t) walk-operand.Post
-walk-operand-sub-field-from t c = ?
+walk-constructor-same-length : (t : ℕ) → walk-constructor-lts.Need-same-length (walk-constructor-claims t) (walk-constructor-at t) walk-constructor.Post
+walk-constructor-same-length t c = search needs
 
--- src/lib.rt:260:55
-walk-operand-part-field-from-start : (t : ℕ) → walk-operand-lts.Need-part-field-from-start (
-  smaller-reads.Asked,
-  smaller-reads.Learnt,
-  field-from-reads.Asked,
-  field-from-reads.Learnt,
-  walk-table-below t,
-  walk-table.Post,
-) (walk-operand-at t) walk-operand.Post
-walk-operand-part-field-from-start t c = ?
+walk-constructor-returns : (t : ℕ) → walk-constructor-lts.Need-returns (walk-constructor-claims t) (walk-constructor-at t) walk-constructor.Post
+walk-constructor-returns t c = 
+    constructor-closes _ _ _ _ _ _ _ _ _ _ _ _ _ _ _ (c .before .before .before .before .before .before .before .before .constructor .ensures) (c .before .before .before .wide .ensures .0) (c .before .before .before .before .before .before .one-more .ensures) (total-in _ _)
+    (c .before .before .before .before .before .walk-operands .ensures) (c .before .close .ensures)
 
--- src/lib.rt:260:55
-walk-operand-part-field-from-end : (t : ℕ) → walk-operand-lts.Need-part-field-from-end (
-  smaller-reads.Asked,
-  smaller-reads.Learnt,
-  field-from-reads.Asked,
-  field-from-reads.Learnt,
-  walk-table-below t,
-  walk-table.Post,
-) (walk-operand-at t) walk-operand.Post
-walk-operand-part-field-from-end t c = ?
+walk-operand-smaller-requires : (t : ℕ) → walk-operand-lts.Need-smaller-requires (walk-operand-claims t) (walk-operand-at t) walk-operand.Post
+walk-operand-smaller-requires t c κs = search needs
 
--- src/lib.rt:260:9
-walk-operand-field-from-requires : (t : ℕ) → walk-operand-lts.Need-field-from-requires (
-  smaller-reads.Asked,
-  smaller-reads.Learnt,
-  field-from-reads.Asked,
-  field-from-reads.Learnt,
-  walk-table-below t,
-  walk-table.Post,
-) (walk-operand-at t) walk-operand.Post
-walk-operand-field-from-requires t c κs = ?
+walk-operand-add-place : (t : ℕ) → walk-operand-lts.Need-add-place (walk-operand-claims t) (walk-operand-at t) walk-operand.Post
+walk-operand-add-place t c = let ready = c .before .before .before .pre .1 in omega (arith, ready .own .near, ready .own .small)
 
--- src/lib.rt:260:9
-walk-operand-same-length : (t : ℕ) → walk-operand-lts.Need-same-length (
-  smaller-reads.Asked,
-  smaller-reads.Learnt,
-  field-from-reads.Asked,
-  field-from-reads.Learnt,
-  walk-table-below t,
-  walk-table.Post,
-) (walk-operand-at t) walk-operand.Post
-walk-operand-same-length t c = ?
+walk-operand-sub-field-from : (t : ℕ) → walk-operand-lts.Need-sub-field-from (walk-operand-claims t) (walk-operand-at t) walk-operand.Post
+walk-operand-sub-field-from t c = search needs
 
--- src/lib.rt:260:9
-walk-operand-returns : (t : ℕ) → walk-operand-lts.Need-returns (
-  smaller-reads.Asked,
-  smaller-reads.Learnt,
-  field-from-reads.Asked,
-  field-from-reads.Learnt,
-  walk-table-below t,
-  walk-table.Post,
-) (walk-operand-at t) walk-operand.Post
-walk-operand-returns t c = ?
+walk-operand-part-field-from-start : (t : ℕ) → walk-operand-lts.Need-part-field-from-start (walk-operand-claims t) (walk-operand-at t) walk-operand.Post
+walk-operand-part-field-from-start t c = search needs
 
--- src/lib.rt:262:44
-walk-operand-sub-walk-table : (t : ℕ) → walk-operand-lts.Need-sub-walk-table (
-  smaller-reads.Asked,
-  smaller-reads.Learnt,
-  field-from-reads.Asked,
-  field-from-reads.Learnt,
-  walk-table-below t,
-  walk-table.Post,
-) (walk-operand-at t) walk-operand.Post
-walk-operand-sub-walk-table t c = ?
+walk-operand-part-field-from-end : (t : ℕ) → walk-operand-lts.Need-part-field-from-end (walk-operand-claims t) (walk-operand-at t) walk-operand.Post
+walk-operand-part-field-from-end t c = search needs
 
--- src/lib.rt:262:44
-walk-operand-part-walk-table-start : (t : ℕ) → walk-operand-lts.Need-part-walk-table-start (
-  smaller-reads.Asked,
-  smaller-reads.Learnt,
-  field-from-reads.Asked,
-  field-from-reads.Learnt,
-  walk-table-below t,
-  walk-table.Post,
-) (walk-operand-at t) walk-operand.Post
-walk-operand-part-walk-table-start t c = ?
+walk-operand-field-from-requires : (t : ℕ) → walk-operand-lts.Need-field-from-requires (walk-operand-claims t) (walk-operand-at t) walk-operand.Post
+walk-operand-field-from-requires t c κs = 
+    let ready = c .before .before .before .before .before .before .before .pre .1 in
+    moved _ _ _ _ _ ready _ _ (c .before .before .before .before .smaller .ensures) (ready .own .near) (ready .own .small) (ready .own .placed .field (c .before .before .if1 .taken))
 
--- src/lib.rt:262:44
-walk-operand-part-walk-table-end : (t : ℕ) → walk-operand-lts.Need-part-walk-table-end (
-  smaller-reads.Asked,
-  smaller-reads.Learnt,
-  field-from-reads.Asked,
-  field-from-reads.Learnt,
-  walk-table-below t,
-  walk-table.Post,
-) (walk-operand-at t) walk-operand.Post
-walk-operand-part-walk-table-end t c = ?
+walk-operand-same-length : (t : ℕ) → walk-operand-lts.Need-same-length (walk-operand-claims t) (walk-operand-at t) walk-operand.Post
+walk-operand-same-length t c = search needs
 
--- src/lib.rt:262:5
-walk-operand-walk-table-requires : (t : ℕ) → walk-operand-lts.Need-walk-table-requires (
-  smaller-reads.Asked,
-  smaller-reads.Learnt,
-  field-from-reads.Asked,
-  field-from-reads.Learnt,
-  walk-table-below t,
-  walk-table.Post,
-) (walk-operand-at t) walk-operand.Post
-walk-operand-walk-table-requires t c κs = ?
+walk-operand-returns : (t : ℕ) → walk-operand-lts.Need-returns (walk-operand-claims t) (walk-operand-at t) walk-operand.Post
+walk-operand-returns t c = operand-field _ _ _ _ _ _ _ _ _ _ (c .before .before .before .before .before .before .smaller .ensures) (c .before .before .before .before .if1 .taken) (c .before .field-from .ensures)
 
--- src/lib.rt:244:1
-walk-operand-same-length-2 : (t : ℕ) → walk-operand-lts.Need-same-length-2 (
-  smaller-reads.Asked,
-  smaller-reads.Learnt,
-  field-from-reads.Asked,
-  field-from-reads.Learnt,
-  walk-table-below t,
-  walk-table.Post,
-) (walk-operand-at t) walk-operand.Post
-walk-operand-same-length-2 t c = ?
+walk-operand-sub-walk-table : (t : ℕ) → walk-operand-lts.Need-sub-walk-table (walk-operand-claims t) (walk-operand-at t) walk-operand.Post
+walk-operand-sub-walk-table t c = search needs
 
--- src/lib.rt:244:1
-walk-operand-returns-2 : (t : ℕ) → walk-operand-lts.Need-returns-2 (
-  smaller-reads.Asked,
-  smaller-reads.Learnt,
-  field-from-reads.Asked,
-  field-from-reads.Learnt,
-  walk-table-below t,
-  walk-table.Post,
-) (walk-operand-at t) walk-operand.Post
-walk-operand-returns-2 t c = ?
+walk-operand-part-walk-table-start : (t : ℕ) → walk-operand-lts.Need-part-walk-table-start (walk-operand-claims t) (walk-operand-at t) walk-operand.Post
+walk-operand-part-walk-table-start t c = search needs
+
+walk-operand-part-walk-table-end : (t : ℕ) → walk-operand-lts.Need-part-walk-table-end (walk-operand-claims t) (walk-operand-at t) walk-operand.Post
+walk-operand-part-walk-table-end t c = search needs
+
+walk-operand-walk-table-requires : (t : ℕ) → walk-operand-lts.Need-walk-table-requires (walk-operand-claims t) (walk-operand-at t) walk-operand.Post
+walk-operand-walk-table-requires t c κs = 
+    let ready = c .before .before .before .before .before .before .before .pre .1 in
+    (omega (arith, c .before .before .before .before .before .before .before .pre .0),
+    moved _ _ _ _ _ ready _ _ (c .before .before .before .before .smaller .ensures) (ready .own .near) (ready .own .small) (ready .own .placed .table (c .before .before .if1 .left)))
+
+walk-operand-same-length-2 : (t : ℕ) → walk-operand-lts.Need-same-length-2 (walk-operand-claims t) (walk-operand-at t) walk-operand.Post
+walk-operand-same-length-2 t c = search needs
+
+walk-operand-returns-2 : (t : ℕ) → walk-operand-lts.Need-returns-2 (walk-operand-claims t) (walk-operand-at t) walk-operand.Post
+walk-operand-returns-2 t c = operand-table _ _ _ _ _ _ _ _ _ _ (c .before .before .before .before .before .before .smaller .ensures) (c .before .before .before .before .if1 .left) (c .before .walk-table .ensures)
 
 abbrev walk-operands-Inv-loop : walk-operands-lts.InvT-loop
 walk-operands-Inv-loop desc fixed code at rows₀ first count ends₀ far₀ passed₀ o₀ rows ends far passed o =
-    ?
+    Turn (settingIn desc fixed) first code at count passed₀ rows₀ rows ends far passed o
 
 abbrev walk-operands-μ-loop : walk-operands-lts.MeasureT-loop
-walk-operands-μ-loop desc fixed code at rows₀ first count ends₀ far₀ passed₀ o₀ rows ends far passed o =
-    ?
+walk-operands-μ-loop desc fixed code at rows₀ first count ends₀ far₀ passed₀ o₀ rows ends far passed o = count - o
 
--- src/lib.rt:278:17
-walk-operands-cast-first : (t : ℕ) → walk-operands-lts.Need-cast-first (
-  wide-reads.Asked,
-  wide-reads.Learnt,
-  operand-reads.Asked,
-  operand-reads.Learnt,
-  walk-operand-below t,
-  walk-operand.Post,
-  larger-reads.Asked,
-  larger-reads.Learnt,
-) (walk-operands-at t) walk-operands.Post walk-operands-Inv-loop walk-operands-μ-loop
-walk-operands-cast-first t c = ?
+walk-operands-cast-first : (t : ℕ) → walk-operands-lts.Need-cast-first (walk-operands-claims t) (walk-operands-at t) walk-operands.Post walk-operands-Inv-loop walk-operands-μ-loop
+walk-operands-cast-first t c = search needs
 
--- src/lib.rt:279:9
-walk-operands-wide-requires : (t : ℕ) → walk-operands-lts.Need-wide-requires (
-  wide-reads.Asked,
-  wide-reads.Learnt,
-  operand-reads.Asked,
-  operand-reads.Learnt,
-  walk-operand-below t,
-  walk-operand.Post,
-  larger-reads.Asked,
-  larger-reads.Learnt,
-) (walk-operands-at t) walk-operands.Post walk-operands-Inv-loop walk-operands-μ-loop
-walk-operands-wide-requires t c κs = ?
+walk-operands-wide-requires : (t : ℕ) → walk-operands-lts.Need-wide-requires (walk-operands-claims t) (walk-operands-at t) walk-operands.Post walk-operands-Inv-loop walk-operands-μ-loop
+walk-operands-wide-requires t c κs = search needs
 
--- src/lib.rt:284:5
-walk-operands-loop-holds : (t : ℕ) → walk-operands-lts.Need-loop-holds (
-  wide-reads.Asked,
-  wide-reads.Learnt,
-  operand-reads.Asked,
-  operand-reads.Learnt,
-  walk-operand-below t,
-  walk-operand.Post,
-  larger-reads.Asked,
-  larger-reads.Learnt,
-) (walk-operands-at t) walk-operands.Post walk-operands-Inv-loop walk-operands-μ-loop
-walk-operands-loop-holds t c = ?
+walk-operands-loop-holds : (t : ℕ) → walk-operands-lts.Need-loop-holds (walk-operands-claims t) (walk-operands-at t) walk-operands.Post walk-operands-Inv-loop walk-operands-μ-loop
+walk-operands-loop-holds t c = 
+    let ready = c .before .before .before .before .pre .1 in
+    first-turn _ _ _ _ _ _ _ (rw (c .wide .ensures .0) (ready .own .usable .few)) (ready .few) (ready .own .near)
 
--- src/lib.rt:285:53
-walk-operands-add-operand : (t : ℕ) → walk-operands-lts.Need-add-operand (
-  wide-reads.Asked,
-  wide-reads.Learnt,
-  operand-reads.Asked,
-  operand-reads.Learnt,
-  walk-operand-below t,
-  walk-operand.Post,
-  larger-reads.Asked,
-  larger-reads.Learnt,
-) (walk-operands-at t) walk-operands.Post walk-operands-Inv-loop walk-operands-μ-loop
-walk-operands-add-operand t c = ?
+walk-operands-add-operand : (t : ℕ) → walk-operands-lts.Need-add-operand (walk-operands-claims t) (walk-operands-at t) walk-operands.Post walk-operands-Inv-loop walk-operands-μ-loop
+walk-operands-add-operand t c = search needs
 
--- src/lib.rt:285:13
-walk-operands-operand-requires : (t : ℕ) → walk-operands-lts.Need-operand-requires (
-  wide-reads.Asked,
-  wide-reads.Learnt,
-  operand-reads.Asked,
-  operand-reads.Learnt,
-  walk-operand-below t,
-  walk-operand.Post,
-  larger-reads.Asked,
-  larger-reads.Learnt,
-) (walk-operands-at t) walk-operands.Post walk-operands-Inv-loop walk-operands-μ-loop
-walk-operands-operand-requires t c κs = ?
+walk-operands-operand-requires : (t : ℕ) → walk-operands-lts.Need-operand-requires (walk-operands-claims t) (walk-operands-at t) walk-operands.Post walk-operands-Inv-loop walk-operands-μ-loop
+walk-operands-operand-requires t c κs = 
+    let ready = c .before .before .before .before .before .before .pre .1 in
+    (ready .fixed, omega (arith, ready .own .usable .inside, c .before .before .wide .ensures .0, c .loop-test .taken))
 
--- src/lib.rt:286:13
-walk-operands-wide-requires-2 : (t : ℕ) → walk-operands-lts.Need-wide-requires-2 (
-  wide-reads.Asked,
-  wide-reads.Learnt,
-  operand-reads.Asked,
-  operand-reads.Learnt,
-  walk-operand-below t,
-  walk-operand.Post,
-  larger-reads.Asked,
-  larger-reads.Learnt,
-) (walk-operands-at t) walk-operands.Post walk-operands-Inv-loop walk-operands-μ-loop
-walk-operands-wide-requires-2 t c κs = ?
+walk-operands-wide-requires-2 : (t : ℕ) → walk-operands-lts.Need-wide-requires-2 (walk-operands-claims t) (walk-operands-at t) walk-operands.Post walk-operands-Inv-loop walk-operands-μ-loop
+walk-operands-wide-requires-2 t c κs = search needs
 
--- src/lib.rt:287:21
-walk-operands-mul-start : (t : ℕ) → walk-operands-lts.Need-mul-start (
-  wide-reads.Asked,
-  wide-reads.Learnt,
-  operand-reads.Asked,
-  operand-reads.Learnt,
-  walk-operand-below t,
-  walk-operand.Post,
-  larger-reads.Asked,
-  larger-reads.Learnt,
-) (walk-operands-at t) walk-operands.Post walk-operands-Inv-loop walk-operands-μ-loop
-walk-operands-mul-start t c = ?
+walk-operands-mul-start : (t : ℕ) → walk-operands-lts.Need-mul-start (walk-operands-claims t) (walk-operands-at t) walk-operands.Post walk-operands-Inv-loop walk-operands-μ-loop
+walk-operands-mul-start t c = search needs
 
--- src/lib.rt:287:21
-walk-operands-array-read-start : (t : ℕ) → walk-operands-lts.Need-array-read-start (
-  wide-reads.Asked,
-  wide-reads.Learnt,
-  operand-reads.Asked,
-  operand-reads.Learnt,
-  walk-operand-below t,
-  walk-operand.Post,
-  larger-reads.Asked,
-  larger-reads.Learnt,
-) (walk-operands-at t) walk-operands.Post walk-operands-Inv-loop walk-operands-μ-loop
-walk-operands-array-read-start t c = ?
+walk-operands-array-read-start : (t : ℕ) → walk-operands-lts.Need-array-read-start (walk-operands-claims t) (walk-operands-at t) walk-operands.Post walk-operands-Inv-loop walk-operands-μ-loop
+walk-operands-array-read-start t c = 
+    let ready = c .before .before .before .before .before .before .before .before .pre .1 in
+    let h : c .before .before .before .loop .o < c .before .before .before .before .before .before .before .before .args .constructor .operands .count = rw (c .before .before .before .before .wide .ensures .0) at (c .before .before .loop-test .taken) in
+    omega (arith, c .wide2 .ensures .0 ∙ ap (λ (x : Operand). x .anchor) (c .before .operand .ensures), ready .own .usable .anchored (c .before .before .before .loop .o) h, ready .own .usable .few)
 
--- src/lib.rt:287:36
-walk-operands-wide-requires-3 : (t : ℕ) → walk-operands-lts.Need-wide-requires-3 (
-  wide-reads.Asked,
-  wide-reads.Learnt,
-  operand-reads.Asked,
-  operand-reads.Learnt,
-  walk-operand-below t,
-  walk-operand.Post,
-  larger-reads.Asked,
-  larger-reads.Learnt,
-) (walk-operands-at t) walk-operands.Post walk-operands-Inv-loop walk-operands-μ-loop
-walk-operands-wide-requires-3 t c κs = ?
+walk-operands-wide-requires-3 : (t : ℕ) → walk-operands-lts.Need-wide-requires-3 (walk-operands-claims t) (walk-operands-at t) walk-operands.Post walk-operands-Inv-loop walk-operands-μ-loop
+walk-operands-wide-requires-3 t c κs = search needs
 
--- src/lib.rt:287:21
-walk-operands-add-start : (t : ℕ) → walk-operands-lts.Need-add-start (
-  wide-reads.Asked,
-  wide-reads.Learnt,
-  operand-reads.Asked,
-  operand-reads.Learnt,
-  walk-operand-below t,
-  walk-operand.Post,
-  larger-reads.Asked,
-  larger-reads.Learnt,
-) (walk-operands-at t) walk-operands.Post walk-operands-Inv-loop walk-operands-μ-loop
-walk-operands-add-start t c = ?
+walk-operands-add-start : (t : ℕ) → walk-operands-lts.Need-add-start (walk-operands-claims t) (walk-operands-at t) walk-operands.Post walk-operands-Inv-loop walk-operands-μ-loop
+walk-operands-add-start t c = omega (arith, c .before .before .before .before .loop .inv .nears (c .before .wide2 .result), c .wide3 .ensures .1)
 
--- src/lib.rt:288:13
-walk-operands-walk-operand-requires : (t : ℕ) → walk-operands-lts.Need-walk-operand-requires (
-  wide-reads.Asked,
-  wide-reads.Learnt,
-  operand-reads.Asked,
-  operand-reads.Learnt,
-  walk-operand-below t,
-  walk-operand.Post,
-  larger-reads.Asked,
-  larger-reads.Learnt,
-) (walk-operands-at t) walk-operands.Post walk-operands-Inv-loop walk-operands-μ-loop
-walk-operands-walk-operand-requires t c κs = ?
+walk-operands-walk-operand-requires : (t : ℕ) → walk-operands-lts.Need-walk-operand-requires (walk-operands-claims t) (walk-operands-at t) walk-operands.Post walk-operands-Inv-loop walk-operands-μ-loop
+walk-operands-walk-operand-requires t c κs = 
+    let ready = c .before .before .before .before .before .before .before .before .before .before .pre .1 in
+    let h : c .before .before .before .before .before .loop .o < c .before .before .before .before .before .before .before .before .before .before .args .constructor .operands .count = rw (c .before .before .before .before .before .before .wide .ensures .0) at (c .before .before .before .before .loop-test .taken) in
+    (omega (arith, c .before .before .before .before .before .before .before .before .before .before .pre .0, c .before .before .before .before .before .loop .inv .since, c .before .before .before .before .before .loop .inv .few),
+    stayed _ _ _ _ _ ready _ (c .before .before .before .before .before .loop .inv .few)
+    (record {
+      placed = rw (c .before .before .before .operand .ensures) (ready .own .usable .placed _ h);
+      near = ready .own .near;
+      small = omega (arith, c .before .before .before .before .before .loop .inv .nears (c .before .before .wide2 .result), c .before .wide3 .ensures .1);
+    }))
 
--- src/lib.rt:290:29
-walk-operands-enum-known-walked : (t : ℕ) → walk-operands-lts.Need-enum-known-walked (
-  wide-reads.Asked,
-  wide-reads.Learnt,
-  operand-reads.Asked,
-  operand-reads.Learnt,
-  walk-operand-below t,
-  walk-operand.Post,
-  larger-reads.Asked,
-  larger-reads.Learnt,
-) (walk-operands-at t) walk-operands.Post walk-operands-Inv-loop walk-operands-μ-loop
-walk-operands-enum-known-walked t c = ?
+walk-operands-enum-known-walked : (t : ℕ) → walk-operands-lts.Need-enum-known-walked (walk-operands-claims t) (walk-operands-at t) walk-operands.Post walk-operands-Inv-loop walk-operands-μ-loop
+walk-operands-enum-known-walked t c = search needs
 
--- src/lib.rt:291:17
-walk-operands-same-length : (t : ℕ) → walk-operands-lts.Need-same-length (
-  wide-reads.Asked,
-  wide-reads.Learnt,
-  operand-reads.Asked,
-  operand-reads.Learnt,
-  walk-operand-below t,
-  walk-operand.Post,
-  larger-reads.Asked,
-  larger-reads.Learnt,
-) (walk-operands-at t) walk-operands.Post walk-operands-Inv-loop walk-operands-μ-loop
-walk-operands-same-length t c = ?
+-- where the operand starts
+starts-at : (t : ℕ) (c : walk-operands-lts.After-wide3 (walk-operands-claims t) (walk-operands-at t) walk-operands.Post walk-operands-Inv-loop walk-operands-μ-loop)
+    → getD (c .before .before .before .before .loop .ends) (c .before .wide2 .result) 0 + c .wide3 .result ≡ startOf (c .before .before .before .before .loop .ends) (c .before .before .operand .result)
+starts-at t c = rw (c .before .wide2 .ensures .0, c .wide3 .ensures .0)
 
--- src/lib.rt:291:17
-walk-operands-returns : (t : ℕ) → walk-operands-lts.Need-returns (
-  wide-reads.Asked,
-  wide-reads.Learnt,
-  operand-reads.Asked,
-  operand-reads.Learnt,
-  walk-operand-below t,
-  walk-operand.Post,
-  larger-reads.Asked,
-  larger-reads.Learnt,
-) (walk-operands-at t) walk-operands.Post walk-operands-Inv-loop walk-operands-μ-loop
-walk-operands-returns t c = ?
+walk-operands-same-length : (t : ℕ) → walk-operands-lts.Need-same-length (walk-operands-claims t) (walk-operands-at t) walk-operands.Post walk-operands-Inv-loop walk-operands-μ-loop
+walk-operands-same-length t c = c .before .before .before .before .walk-operand .kept .1 .1 .1 .1 .1 .1 .0 ∙ c .before .before .before .before .before .before .before .before .before .before .loop .inv .kept
 
--- src/lib.rt:294:24
-walk-operands-enum-known-walked-2 : (t : ℕ) → walk-operands-lts.Need-enum-known-walked-2 (
-  wide-reads.Asked,
-  wide-reads.Learnt,
-  operand-reads.Asked,
-  operand-reads.Learnt,
-  walk-operand-below t,
-  walk-operand.Post,
-  larger-reads.Asked,
-  larger-reads.Learnt,
-) (walk-operands-at t) walk-operands.Post walk-operands-Inv-loop walk-operands-μ-loop
-walk-operands-enum-known-walked-2 t c = ?
+walk-operands-returns : (t : ℕ) → walk-operands-lts.Need-returns (walk-operands-claims t) (walk-operands-at t) walk-operands.Post walk-operands-Inv-loop walk-operands-μ-loop
+walk-operands-returns t c = 
+    rw (c .before .before .before .before .before .before .before .before .before .before .before .wide .ensures .0) at
+    (refused-turn _ _ _ _ _ _ _ _ _ _ _ _ _ (c .before .before .before .before .before .before .before .before .before .before .loop .inv) _ _ _ (c .before .before .before .before .before .before .before .before .before .loop-test .taken) (c .before .before .before .before .before .before .before .before .operand .ensures) (starts-at t (c .before .before .before .before .before .before))
+    (c .before .before .before .before .walk-operand .ensures) _ (c .before .walked .given .1))
 
--- src/lib.rt:297:27
-walk-operands-add-end : (t : ℕ) → walk-operands-lts.Need-add-end (
-  wide-reads.Asked,
-  wide-reads.Learnt,
-  operand-reads.Asked,
-  operand-reads.Learnt,
-  walk-operand-below t,
-  walk-operand.Post,
-  larger-reads.Asked,
-  larger-reads.Learnt,
-) (walk-operands-at t) walk-operands.Post walk-operands-Inv-loop walk-operands-μ-loop
-walk-operands-add-end t c = ?
+walk-operands-enum-known-walked-2 : (t : ℕ) → walk-operands-lts.Need-enum-known-walked-2 (walk-operands-claims t) (walk-operands-at t) walk-operands.Post walk-operands-Inv-loop walk-operands-μ-loop
+walk-operands-enum-known-walked-2 t c = search needs
 
--- src/lib.rt:299:17
-walk-operands-add-o : (t : ℕ) → walk-operands-lts.Need-add-o (
-  wide-reads.Asked,
-  wide-reads.Learnt,
-  operand-reads.Asked,
-  operand-reads.Learnt,
-  walk-operand-below t,
-  walk-operand.Post,
-  larger-reads.Asked,
-  larger-reads.Learnt,
-) (walk-operands-at t) walk-operands.Post walk-operands-Inv-loop walk-operands-μ-loop
-walk-operands-add-o t c = ?
+walk-operands-add-end : (t : ℕ) → walk-operands-lts.Need-add-end (walk-operands-claims t) (walk-operands-at t) walk-operands.Post walk-operands-Inv-loop walk-operands-μ-loop
+walk-operands-add-end t c = 
+    let w = within _ _ _ _ _ _ _ _ (c .before .before .before .before .walk-operand .ensures) in
+    let bounds : Within (c .before .before .before .before .before .before .before .before .before .before .before .before .before .before .before .args .at + (getD (c .before .before .before .before .before .before .before .before .before .before .loop .ends) (c .before .before .before .before .before .before .before .wide2 .result) 0 + c .before .before .before .before .before .before .wide3 .result)) (c .before .before .before .before .before .before .before .before .before .before .loop .passed .used) (Done (c .before .walked2 .given .0 .0) (c .before .walked2 .given .0 .1 .0)) = rw (c .before .walked2 .given .1) at w in
+    omega (arith, bounds .2)
 
--- src/lib.rt:300:17
-walk-operands-mul-ends : (t : ℕ) → walk-operands-lts.Need-mul-ends (
-  wide-reads.Asked,
-  wide-reads.Learnt,
-  operand-reads.Asked,
-  operand-reads.Learnt,
-  walk-operand-below t,
-  walk-operand.Post,
-  larger-reads.Asked,
-  larger-reads.Learnt,
-) (walk-operands-at t) walk-operands.Post walk-operands-Inv-loop walk-operands-μ-loop
-walk-operands-mul-ends t c = ?
+walk-operands-add-o : (t : ℕ) → walk-operands-lts.Need-add-o (walk-operands-claims t) (walk-operands-at t) walk-operands.Post walk-operands-Inv-loop walk-operands-μ-loop
+walk-operands-add-o t c = search needs
 
--- src/lib.rt:300:17
-walk-operands-array-write-ends : (t : ℕ) → walk-operands-lts.Need-array-write-ends (
-  wide-reads.Asked,
-  wide-reads.Learnt,
-  operand-reads.Asked,
-  operand-reads.Learnt,
-  walk-operand-below t,
-  walk-operand.Post,
-  larger-reads.Asked,
-  larger-reads.Learnt,
-) (walk-operands-at t) walk-operands.Post walk-operands-Inv-loop walk-operands-μ-loop
-walk-operands-array-write-ends t c = ?
+walk-operands-mul-ends : (t : ℕ) → walk-operands-lts.Need-mul-ends (walk-operands-claims t) (walk-operands-at t) walk-operands.Post walk-operands-Inv-loop walk-operands-μ-loop
+walk-operands-mul-ends t c = search needs
 
--- src/lib.rt:301:17
-walk-operands-larger-requires : (t : ℕ) → walk-operands-lts.Need-larger-requires (
-  wide-reads.Asked,
-  wide-reads.Learnt,
-  operand-reads.Asked,
-  operand-reads.Learnt,
-  walk-operand-below t,
-  walk-operand.Post,
-  larger-reads.Asked,
-  larger-reads.Learnt,
-) (walk-operands-at t) walk-operands.Post walk-operands-Inv-loop walk-operands-μ-loop
-walk-operands-larger-requires t c κs = ?
+walk-operands-array-write-ends : (t : ℕ) → walk-operands-lts.Need-array-write-ends (walk-operands-claims t) (walk-operands-at t) walk-operands.Post walk-operands-Inv-loop walk-operands-μ-loop
+walk-operands-array-write-ends t c = search needs
 
--- src/lib.rt:284:5
-walk-operands-loop-less : (t : ℕ) → walk-operands-lts.Need-loop-less (
-  wide-reads.Asked,
-  wide-reads.Learnt,
-  operand-reads.Asked,
-  operand-reads.Learnt,
-  walk-operand-below t,
-  walk-operand.Post,
-  larger-reads.Asked,
-  larger-reads.Learnt,
-) (walk-operands-at t) walk-operands.Post walk-operands-Inv-loop walk-operands-μ-loop
-walk-operands-loop-less t c = ?
+walk-operands-larger-requires : (t : ℕ) → walk-operands-lts.Need-larger-requires (walk-operands-claims t) (walk-operands-at t) walk-operands.Post walk-operands-Inv-loop walk-operands-μ-loop
+walk-operands-larger-requires t c κs = search needs
 
--- src/lib.rt:284:5
-walk-operands-loop-again : (t : ℕ) → walk-operands-lts.Need-loop-again (
-  wide-reads.Asked,
-  wide-reads.Learnt,
-  operand-reads.Asked,
-  operand-reads.Learnt,
-  walk-operand-below t,
-  walk-operand.Post,
-  larger-reads.Asked,
-  larger-reads.Learnt,
-) (walk-operands-at t) walk-operands.Post walk-operands-Inv-loop walk-operands-μ-loop
-walk-operands-loop-again t c = ?
+walk-operands-loop-less : (t : ℕ) → walk-operands-lts.Need-loop-less (walk-operands-claims t) (walk-operands-at t) walk-operands.Post walk-operands-Inv-loop walk-operands-μ-loop
+walk-operands-loop-less t c = search needs
 
--- src/lib.rt:266:1
-walk-operands-same-length-2 : (t : ℕ) → walk-operands-lts.Need-same-length-2 (
-  wide-reads.Asked,
-  wide-reads.Learnt,
-  operand-reads.Asked,
-  operand-reads.Learnt,
-  walk-operand-below t,
-  walk-operand.Post,
-  larger-reads.Asked,
-  larger-reads.Learnt,
-) (walk-operands-at t) walk-operands.Post walk-operands-Inv-loop walk-operands-μ-loop
-walk-operands-same-length-2 t c = ?
+walk-operands-loop-again : (t : ℕ) → walk-operands-lts.Need-loop-again (walk-operands-claims t) (walk-operands-at t) walk-operands.Post walk-operands-Inv-loop walk-operands-μ-loop
+walk-operands-loop-again t c = 
+    rw (c .larger .ensures)
+    (next-turn _ _ _ _ _ _ _ _ _ _ _ _ _ (c .before .before .before .before .before .before .before .before .before .before .before .loop .inv) _ _ _ (c .before .before .before .before .before .before .before .before .before .before .loop-test .taken) (c .before .before .before .before .before .before .before .before .before .operand .ensures) (starts-at t (c .before .before .before .before .before .before .before))
+    (c .before .before .before .before .before .walk-operand .ensures) _ _ (c .before .before .walked2 .given .1) (c .before .before .before .before .before .walk-operand .kept .1 .1 .1 .1 .1 .1 .0))
 
--- src/lib.rt:266:1
-walk-operands-returns-2 : (t : ℕ) → walk-operands-lts.Need-returns-2 (
-  wide-reads.Asked,
-  wide-reads.Learnt,
-  operand-reads.Asked,
-  operand-reads.Learnt,
-  walk-operand-below t,
-  walk-operand.Post,
-  larger-reads.Asked,
-  larger-reads.Learnt,
-) (walk-operands-at t) walk-operands.Post walk-operands-Inv-loop walk-operands-μ-loop
-walk-operands-returns-2 t c = ?
+walk-operands-same-length-2 : (t : ℕ) → walk-operands-lts.Need-same-length-2 (walk-operands-claims t) (walk-operands-at t) walk-operands.Post walk-operands-Inv-loop walk-operands-μ-loop
+walk-operands-same-length-2 t c = c .before .loop .inv .kept
 
--- src/lib.rt:344:9
-walk-table-returns : (t : ℕ) → walk-table-lts.Need-returns (
-  choose-at-reads.Asked,
-  choose-at-reads.Learnt,
-  walk-constructor-below t,
-  walk-constructor.Post,
-) (walk-table-at t) walk-table.Post
-walk-table-returns t c = ?
+walk-operands-returns-2 : (t : ℕ) → walk-operands-lts.Need-returns-2 (walk-operands-claims t) (walk-operands-at t) walk-operands.Post walk-operands-Inv-loop walk-operands-μ-loop
+walk-operands-returns-2 t c = rw (c .before .before .wide .ensures .0) at (last-turn _ _ _ _ _ _ _ _ _ _ _ _ (c .before .loop .inv) (c .loop-test .left))
 
--- src/lib.rt:347:9
-walk-table-returns-2 : (t : ℕ) → walk-table-lts.Need-returns-2 (
-  choose-at-reads.Asked,
-  choose-at-reads.Learnt,
-  walk-constructor-below t,
-  walk-constructor.Post,
-) (walk-table-at t) walk-table.Post
-walk-table-returns-2 t c = ?
+walk-table-returns : (t : ℕ) → walk-table-lts.Need-returns (walk-table-claims t) (walk-table-at t) walk-table.Post
+walk-table-returns t c = table-full _ _ _ _ _ _ _ (c .if1 .taken)
 
--- src/lib.rt:349:9
-walk-table-choose-at-requires : (t : ℕ) → walk-table-lts.Need-choose-at-requires (
-  choose-at-reads.Asked,
-  choose-at-reads.Learnt,
-  walk-constructor-below t,
-  walk-constructor.Post,
-) (walk-table-at t) walk-table.Post
-walk-table-choose-at-requires t c κs = ?
+walk-table-returns-2 : (t : ℕ) → walk-table-lts.Need-returns-2 (walk-table-claims t) (walk-table-at t) walk-table.Post
+walk-table-returns-2 t c = table-far _ _ _ _ _ _ _ (c .before .if1 .left) (c .if2 .taken)
 
--- src/lib.rt:351:42
-walk-table-enum-told : (t : ℕ) → walk-table-lts.Need-enum-told (
-  choose-at-reads.Asked,
-  choose-at-reads.Learnt,
-  walk-constructor-below t,
-  walk-constructor.Post,
-) (walk-table-at t) walk-table.Post
-walk-table-enum-told t c = ?
+walk-table-choose-at-requires : (t : ℕ) → walk-table-lts.Need-choose-at-requires (walk-table-claims t) (walk-table-at t) walk-table.Post
+walk-table-choose-at-requires t c κs = (c .before .before .before .before .before .pre .1 .fixed, c .before .before .before .before .before .pre .1 .own)
 
--- src/lib.rt:352:44
-walk-table-enum-told-2 : (t : ℕ) → walk-table-lts.Need-enum-told-2 (
-  choose-at-reads.Asked,
-  choose-at-reads.Learnt,
-  walk-constructor-below t,
-  walk-constructor.Post,
-) (walk-table-at t) walk-table.Post
-walk-table-enum-told-2 t c = ?
+walk-table-enum-told : (t : ℕ) → walk-table-lts.Need-enum-told (walk-table-claims t) (walk-table-at t) walk-table.Post
+walk-table-enum-told t c = search needs
 
--- src/lib.rt:353:23
-walk-table-enum-known-choice : (t : ℕ) → walk-table-lts.Need-enum-known-choice (
-  choose-at-reads.Asked,
-  choose-at-reads.Learnt,
-  walk-constructor-below t,
-  walk-constructor.Post,
-) (walk-table-at t) walk-table.Post
-walk-table-enum-known-choice t c = ?
+walk-table-enum-told-2 : (t : ℕ) → walk-table-lts.Need-enum-told-2 (walk-table-claims t) (walk-table-at t) walk-table.Post
+walk-table-enum-told-2 t c = search needs
 
--- src/lib.rt:353:34
-walk-table-walk-constructor-requires : (t : ℕ) → walk-table-lts.Need-walk-constructor-requires (
-  choose-at-reads.Asked,
-  choose-at-reads.Learnt,
-  walk-constructor-below t,
-  walk-constructor.Post,
-) (walk-table-at t) walk-table.Post
-walk-table-walk-constructor-requires t c κs = ?
+walk-table-enum-known-choice : (t : ℕ) → walk-table-lts.Need-enum-known-choice (walk-table-claims t) (walk-table-at t) walk-table.Post
+walk-table-enum-known-choice t c = search needs
 
--- src/lib.rt:354:46
-walk-table-enum-told-3 : (t : ℕ) → walk-table-lts.Need-enum-told-3 (
-  choose-at-reads.Asked,
-  choose-at-reads.Learnt,
-  walk-constructor-below t,
-  walk-constructor.Post,
-) (walk-table-at t) walk-table.Post
-walk-table-enum-told-3 t c = ?
+walk-table-walk-constructor-requires : (t : ℕ) → walk-table-lts.Need-walk-constructor-requires (walk-table-claims t) (walk-table-at t) walk-table.Post
+walk-table-walk-constructor-requires t c κs = 
+    let ready = c .before .before .before .before .before .before .before .before .before .before .pre .1 in
+    let e = sym (c .before .before .before .before .choose-at .ensures) ∙ c .before .before .choice .given .1 in
+    (omega (arith, c .before .before .before .before .before .before .before .before .before .before .pre .0, c .before .before .before .before .before .before .if1 .left),
+    stayed _ _ _ _ _ ready _ (ready .few)
+    (record { within = takes _ _ _ _ (obeyed-in _ _ (ready .fixed)) _ e .within; near = c .before .before .before .before .before .if2 .left; room = c .before .before .before .before .before .before .if1 .left }))
 
--- src/lib.rt:331:1
-walk-table-returns-3 : (t : ℕ) → walk-table-lts.Need-returns-3 (
-  choose-at-reads.Asked,
-  choose-at-reads.Learnt,
-  walk-constructor-below t,
-  walk-constructor.Post,
-) (walk-table-at t) walk-table.Post
-walk-table-returns-3 t c = ?
+walk-table-enum-told-3 : (t : ℕ) → walk-table-lts.Need-enum-told-3 (walk-table-claims t) (walk-table-at t) walk-table.Post
+walk-table-enum-told-3 t c = search needs
 
--- src/lib.rt:331:1
-walk-table-returns-4 : (t : ℕ) → walk-table-lts.Need-returns-4 (
-  choose-at-reads.Asked,
-  choose-at-reads.Learnt,
-  walk-constructor-below t,
-  walk-constructor.Post,
-) (walk-table-at t) walk-table.Post
-walk-table-returns-4 t c = ?
+walk-table-returns-3 : (t : ℕ) → walk-table-lts.Need-returns-3 (walk-table-claims t) (walk-table-at t) walk-table.Post
+walk-table-returns-3 t c = 
+    table-refused _ _ _ _ _ _ _ (c .before .before .before .before .if1 .left) (c .before .before .before .if2 .left) _ _ (sym (c .enum-told .given .1) ∙ c .before .before .choose-at .ensures) (λ w. refl)
 
--- src/lib.rt:331:1
-walk-table-same-length : (t : ℕ) → walk-table-lts.Need-same-length (
-  choose-at-reads.Asked,
-  choose-at-reads.Learnt,
-  walk-constructor-below t,
-  walk-constructor.Post,
-) (walk-table-at t) walk-table.Post
-walk-table-same-length t c = ?
+walk-table-returns-4 : (t : ℕ) → walk-table-lts.Need-returns-4 (walk-table-claims t) (walk-table-at t) walk-table.Post
+walk-table-returns-4 t c = 
+    table-refused _ _ _ _ _ _ _ (c .before .before .before .before .if1 .left) (c .before .before .before .if2 .left) _ _ (sym (c .enum-told2 .given .1) ∙ c .before .before .choose-at .ensures) (λ w. refl)
 
--- src/lib.rt:331:1
-walk-table-returns-5 : (t : ℕ) → walk-table-lts.Need-returns-5 (
-  choose-at-reads.Asked,
-  choose-at-reads.Learnt,
-  walk-constructor-below t,
-  walk-constructor.Post,
-) (walk-table-at t) walk-table.Post
-walk-table-returns-5 t c = ?
+walk-table-same-length : (t : ℕ) → walk-table-lts.Need-same-length (walk-table-claims t) (walk-table-at t) walk-table.Post
+walk-table-same-length t c = search needs
 
--- src/lib.rt:331:1
-walk-table-returns-6 : (t : ℕ) → walk-table-lts.Need-returns-6 (
-  choose-at-reads.Asked,
-  choose-at-reads.Learnt,
-  walk-constructor-below t,
-  walk-constructor.Post,
-) (walk-table-at t) walk-table.Post
-walk-table-returns-6 t c = ?
+walk-table-returns-5 : (t : ℕ) → walk-table-lts.Need-returns-5 (walk-table-claims t) (walk-table-at t) walk-table.Post
+walk-table-returns-5 t c = 
+    table-taken _ _ _ _ _ _ _ (c .before .before .before .before .before .before .before .before .if1 .left) (c .before .before .before .before .before .before .before .if2 .left) _ _ (sym (c .before .before .before .before .choice .given .1) ∙ c .before .before .before .before .before .before .choose-at .ensures)
+    (c .before .walk-constructor .ensures)
+
+walk-table-returns-6 : (t : ℕ) → walk-table-lts.Need-returns-6 (walk-table-claims t) (walk-table-at t) walk-table.Post
+walk-table-returns-6 t c = 
+    table-refused _ _ _ _ _ _ _ (c .before .before .before .before .if1 .left) (c .before .before .before .if2 .left) _ _ (sym (c .enum-told3 .given .1) ∙ c .before .before .choose-at .ensures) (λ w. refl)
 
 pub +walk-constructor+walk-operand+walk-operands+walk-table-spec : {M : Type 1} → statement M
 +walk-constructor+walk-operand+walk-operands+walk-table-spec =
@@ -804,8 +377,7 @@ pub +walk-constructor+walk-operand+walk-operands+walk-table-spec : {M : Type 1} 
       wide-reads.Learnt,
       close-reads.Asked,
       close-reads.Learnt,
-    )
-    (walk-constructor-at t)
+    ) (walk-constructor-at t)
     walk-constructor.Post
     (walk-constructor-constructor-requires t)
     (walk-constructor-one-more-requires t)
@@ -821,8 +393,7 @@ pub +walk-constructor+walk-operand+walk-operands+walk-table-spec : {M : Type 1} 
       field-from-reads.Learnt,
       walk-table-below t,
       walk-table.Post,
-    )
-    (walk-operand-at t)
+    ) (walk-operand-at t)
     walk-operand.Post
     (walk-operand-smaller-requires t)
     (walk-operand-add-place t)
@@ -847,8 +418,7 @@ pub +walk-constructor+walk-operand+walk-operands+walk-table-spec : {M : Type 1} 
       walk-operand.Post,
       larger-reads.Asked,
       larger-reads.Learnt,
-    )
-    (walk-operands-at t)
+    ) (walk-operands-at t)
     walk-operands.Post
     walk-operands-Inv-loop
     walk-operands-μ-loop
@@ -881,8 +451,7 @@ pub +walk-constructor+walk-operand+walk-operands+walk-table-spec : {M : Type 1} 
       choose-at-reads.Learnt,
       walk-constructor-below t,
       walk-constructor.Post,
-    )
-    (walk-table-at t)
+    ) (walk-table-at t)
     walk-table.Post
     (walk-table-returns t)
     (walk-table-returns-2 t)

@@ -1,3 +1,12 @@
+-- `walking::close` meets its contract. Assumes nothing.
+use Prim.Native.Nat.{_+_, _≤_}
+use mathlib.Core.Path.{_≡_, sym, _∙_}
+use native.Mathlib.Omega.{arith}
+use mir.Facts.{toZ-pos}
+use mir.Syntax.{w64}
+use Rattle.walking.specs.Walks.{Within}
+use Rattle.walking.specs.declared.Walked.the-variants.{Done}
+use Rattle.walking.proofs.Steps.{closes-refused, closes-far, closes-short, closes-done}
 use borrow.Author.Needs.{needs}
 use Rattle.walking.proofs.close.Statement.{statement}
 use Rattle.walking.proofs.close.Tie as tie
@@ -6,57 +15,54 @@ use Rattle.walking.proofs.close.Lts as lts
 use Rattle.walking.proofs.larger.Reads as larger-reads
 use Rattle.walking.proofs.put_row.Reads as put-row-reads
 
--- src/lib.rt:220:25
+-- the bounds of the operands' walk, where it was done
+came : (c : tie.After-walked2) → Within (c .before .before .args .at) (c .before .before .args .used + 1) (Done (c .walked2 .given .0 .0) (c .walked2 .given .0 .1 .0))
+came c = rw (c .walked2 .given .1) at (c .before .before .pre .1)
+
 enum-known-walked : tie.Need-enum-known-walked
 enum-known-walked c = search needs
 
--- src/lib.rt:221:24
 enum-known-walked-2 : tie.Need-enum-known-walked-2
 enum-known-walked-2 c = search needs
 
--- src/lib.rt:222:17
 larger-requires : tie.Need-larger-requires
 larger-requires c κs = search needs
 
--- src/lib.rt:223:23
 add-end : tie.Need-add-end
-add-end c = ?
+add-end c = let w = came (c .before .before) in omega (arith, c .larger .ensures)
 
--- src/lib.rt:225:17
 returns : tie.Need-returns
-returns c = ?
+returns c = closes-far _ _ _ _ _ _ _ _ _ _ _ (c .before .before .before .walked2 .given .1) (c .before .larger .ensures) (c .if1 .taken)
 
--- src/lib.rt:227:16
 element-copy-out-if2 : tie.Need-element-copy-out-if2
 element-copy-out-if2 c = search needs
 
--- src/lib.rt:228:17
 returns-2 : tie.Need-returns-2
-returns-2 c = ?
+returns-2 c = closes-short _ _ _ _ _ _ _ _ _ _ _ (c .before .before .before .before .before .walked2 .given .1) (c .before .before .before .larger .ensures) (c .before .before .if1 .left) (c .if2 .taken)
 
--- src/lib.rt:230:24
 cast-last : tie.Need-cast-last
 cast-last c = search needs
 
--- src/lib.rt:231:24
 sub-size : tie.Need-sub-size
-sub-size c = ?
+sub-size c = let w = came (c .before .before .before .before .before .before) in omega arith
 
--- src/lib.rt:232:13
 put-row-requires : tie.Need-put-row-requires
-put-row-requires c κs = ?
+put-row-requires c κs = 
+    let w = came (c .before .before .before .before .before .before .before) in
+    let start = c .before .before .before .before .before .before .before .before .before in
+    (start .pre .0 .3, start .pre .0 .0, start .pre .0 .2, omega arith)
 
--- src/lib.rt:206:1
 returns-3 : tie.Need-returns-3
-returns-3 c = ?
+returns-3 c = closes-refused _ _ _ _ _ _ _ _ _ (c .before .walked .given .1)
 
--- src/lib.rt:206:1
 same-length : tie.Need-same-length
 same-length c = search needs
 
--- src/lib.rt:206:1
 returns-4 : tie.Need-returns-4
-returns-4 c = ?
+returns-4 c = 
+    let w = came (c .before .before .before .before .before .before .before .before .before) in
+    closes-done _ _ _ _ _ _ _ _ _ _ _ (c .before .before .before .before .before .before .before .before .before .walked2 .given .1) (c .before .before .before .before .before .before .before .larger .ensures) (c .before .before .before .before .before .before .if1 .left) (c .before .before .before .before .if2 .left)
+    (rw (toZ-pos w64 {n = c .before .before .before .before .before .before .before .larger .result} (omega arith)) at (c .before .put-row .ensures))
 
 pub close-spec : {M : Type 1} → statement M
 close-spec =

@@ -1,3 +1,17 @@
+-- `walking::field_from` meets its contract. Assumes nothing.
+use Prim.Native.Nat.{ℕ, _+_}
+use mathlib.Core.Bool.{true}
+use mathlib.Core.Path.{_≡_, sym, _∙_, ap}
+use native.Mathlib.Omega.{arith}
+use lib.ListN.{length, getD}
+use Rattle.format.specs.Description.{noField}
+use Rattle.format.specs.Rules.{fieldOk}
+use Rattle.fields.proofs.Values.{readable, named-within}
+use Rattle.decoding_spec.specs.Walk.{widthOf}
+use Rattle.decoding_theorems.proofs.Records.{field-ok}
+use Rattle.setting.specs.Fixed.{settingIn}
+use Rattle.setting.proofs.Laws.{obeyed-in, total-in}
+use Rattle.walking.proofs.Steps.{near-end, field-full, field-far, field-short, field-shown}
 use borrow.Author.Needs.{needs}
 use Rattle.walking.proofs.field_from.Statement.{statement}
 use Rattle.walking.proofs.field_from.Tie as tie
@@ -8,49 +22,67 @@ use Rattle.walking.proofs.show.Reads as show-reads
 use Rattle.walking.proofs.wide.Reads as wide-reads
 use Rattle.walking.proofs.width_of.Reads as width-of-reads
 
--- src/lib.rt:192:9
-returns : tie.Need-returns
-returns c = ?
+-- the record at the index, and where it ends
+found : (c : tie.After-field)
+    → c .field .result ≡ getD (settingIn (c .before .before .before .before .before .before .args .desc .now) (c .before .before .before .before .before .before .args .fixed .now) .description .fields) (c .before .before .before .before .before .before .args .index) noField
+found c = rw (c .before .wide .ensures .0) at (c .field .ensures)
 
--- src/lib.rt:194:45
+end-is : (c : tie.After-width-of)
+    → c .before .before .before .before .before .before .before .args .place + c .width-of .result
+    ≡ c .before .before .before .before .before .before .before .args .place + widthOf (getD (settingIn (c .before .before .before .before .before .before .before .args .desc .now) (c .before .before .before .before .before .before .before .args .fixed .now) .description .fields) (c .before .before .before .before .before .before .before .args .index) noField)
+end-is c = ap (λ (w : ℕ). c .before .before .before .before .before .before .before .args .place + w) (c .width-of .ensures .0 ∙ ap widthOf (found (c .before)))
+
+good : (c : tie.After-field)
+    → fieldOk (length (settingIn (c .before .before .before .before .before .before .args .desc .now) (c .before .before .before .before .before .before .args .fixed .now) .description .names)) (c .field .result) ≡ true
+good c = rw (found c) (field-ok _ (obeyed-in _ _ (c .before .before .before .before .before .before .pre .fixed)) (c .before .before .before .before .before .before .args .index) (c .before .before .before .before .before .before .pre .own))
+
+returns : tie.Need-returns
+returns c = field-full _ _ _ _ _ _ _ _ (c .if1 .taken)
+
 wide-requires : tie.Need-wide-requires
 wide-requires c κs = search needs
 
--- src/lib.rt:194:9
 field-requires : tie.Need-field-requires
 field-requires c κs = search needs
 
--- src/lib.rt:195:23
 width-of-requires : tie.Need-width-of-requires
 width-of-requires c κs = search needs
 
--- src/lib.rt:195:15
 add-end : tie.Need-add-end
 add-end c = search needs
 
--- src/lib.rt:197:9
 returns-2 : tie.Need-returns-2
-returns-2 c = ?
+returns-2 c = field-far _ _ _ _ _ _ (c .before .before .before .before .if1 .left) _ _ _ (end-is (c .before)) (c .if2 .taken)
 
--- src/lib.rt:199:8
 element-copy-out-if3 : tie.Need-element-copy-out-if3
 element-copy-out-if3 c = search needs
 
--- src/lib.rt:200:9
 returns-3 : tie.Need-returns-3
-returns-3 c = ?
+returns-3 c = field-short _ _ _ _ _ _ (c .before .before .before .before .before .before .if1 .left) _ (end-is (c .before .before .before)) (c .before .before .if2 .left) _ _ (rw total-in (c .if3 .taken))
 
--- src/lib.rt:202:5
 show-requires : tie.Need-show-requires
-show-requires c κs = ?
+show-requires c κs = 
+    let start = c .before .before .before .before .before .before .before .before .before .before .before in
+    let f = c .before .before .before .before .before .field .result in
+    let end = start .args .place + c .before .before .before .before .width-of .result in
+    (start .pre .fixed,
+    record {
+      readable = readable _ _ (good (c .before .before .before .before .before));
+      here = λ e. let w : c .before .before .before .before .width-of .result ≡ f .width = c .before .before .before .before .width-of .ensures .0 ∙ simp e in omega (arith, start .pre .code, total-in (start .args .desc .now) (start .args .fixed .now), c .before .if3 .left);
+      name = λ e. named-within _ f _ _ (good (c .before .before .before .before .before)) e;
+      room = c .before .before .before .before .before .before .before .if1 .left;
+      near = rw (← c .before .before .before .before .width-of .ensures .0) (near-end (start .args .place) end (c .before .before .before .if2 .left));
+    })
 
--- src/lib.rt:179:1
 same-length : tie.Need-same-length
 same-length c = search needs
 
--- src/lib.rt:179:1
 returns-4 : tie.Need-returns-4
-returns-4 c = ?
+returns-4 c = 
+    let start = c .before .before .before .before .before .before .before .before .before .before .before .before .before in
+    let h = c .before .show .ensures in
+    rw (field-shown (settingIn (start .args .desc .now) (start .args .fixed .now)) _ _ (start .args .code .now) (start .args .place) (start .args .state) (c .before .before .before .before .before .before .before .before .before .if1 .left) _ (end-is (c .before .before .before .before .before .before)) (c .before .before .before .before .before .if2 .left) (omega (arith, total-in (c .before .before .before .before .before .before .before .before .before .before .before .before .before .args .desc .now) (c .before .before .before .before .before .before .before .before .before .before .before .before .before .args .fixed .now), c .before .before .before .if3 .left)))
+    (rw (found (c .before .before .before .before .before .before .before)) at h)
 
 pub field-from-spec : {M : Type 1} → statement M
 field-from-spec =

@@ -1,3 +1,8 @@
+-- `walking::put_number` meets its contract. Assumes nothing.
+use mathlib.Core.Path.{_∙_, ap}
+use mir.Facts.{toZ-ofZ}
+use Rattle.fields.proofs.Values.{bits-some, value-small}
+use Rattle.walking.proofs.Writing.{unwritten}
 use borrow.Author.Needs.{needs}
 use Rattle.walking.proofs.put_number.Statement.{statement}
 use Rattle.walking.proofs.put_number.Tie as tie
@@ -8,41 +13,36 @@ use Rattle.fields.proofs.value.Reads as value-reads
 use Rattle.walking.proofs.put_row.Reads as put-row-reads
 use Rattle.walking.proofs.wide.Reads as wide-reads
 
--- src/lib.rt:129:13
 value-requires : tie.Need-value-requires
 value-requires c κs = search needs
 
--- src/lib.rt:130:20
 add-bits : tie.Need-add-bits
 add-bits c = search needs
 
--- src/lib.rt:130:20
 sub-bits : tie.Need-sub-bits
 sub-bits c = search needs
 
--- src/lib.rt:131:13
 number-requires : tie.Need-number-requires
-number-requires c κs = ?
+number-requires c κs = 
+    let start = c .before .before .before .before .before in
+    let some = bits-some _ (start .pre .0 .0) in
+    (some .0, some .1, rw (c .before .before .value .ensures) (value-small _ _ _))
 
--- src/lib.rt:132:32
 wide-requires : tie.Need-wide-requires
 wide-requires c κs = search needs
 
--- src/lib.rt:132:9
 put-row-requires : tie.Need-put-row-requires
 put-row-requires c κs = search needs
 
--- src/lib.rt:114:1
 same-length : tie.Need-same-length
 same-length c = search needs
 
--- src/lib.rt:114:1
 returns : tie.Need-returns
-returns c = ?
+returns c = 
+    rw (toZ-ofZ (record { sfits = c .before .before .before .before .number .ok }), c .before .before .before .before .number .ensures, c .before .before .before .before .before .before .before .value .ensures, c .before .before .wide .ensures .0) at (c .before .put-row .ensures)
 
--- src/lib.rt:114:1
 returns-2 : tie.Need-returns-2
-returns-2 c = ?
+returns-2 c = unwritten _ _ _ (c .if1 .left)
 
 pub put-number-spec : {M : Type 1} → statement M
 put-number-spec =

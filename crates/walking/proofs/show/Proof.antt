@@ -1,3 +1,12 @@
+-- `walking::show` meets its contract. Assumes nothing.
+use Prim.Native.Nat.{_+_}
+use mathlib.Core.Path.{_≡_, sym, _∙_, ap}
+use native.Mathlib.Omega.{arith}
+use mir.Facts.{toZ-pos}
+use mir.Syntax.{w64}
+use Rattle.fields.proofs.Values.{value-small}
+use Rattle.decoding_theorems.proofs.Records.{narrow}
+use Rattle.walking.proofs.Steps.{shows-hole, shows-number, shows-name}
 use borrow.Author.Needs.{needs}
 use Rattle.walking.proofs.show.Statement.{statement}
 use Rattle.walking.proofs.show.Tie as tie
@@ -12,81 +21,83 @@ use Rattle.walking.proofs.put_row.Reads as put-row-reads
 use Rattle.walking.proofs.wide.Reads as wide-reads
 use Rattle.walking.proofs.width_of.Reads as width-of-reads
 
--- src/lib.rt:150:9
 width-of-requires : tie.Need-width-of-requires
 width-of-requires c κs = search needs
 
--- src/lib.rt:153:9
 look-of-requires : tie.Need-look-of-requires
 look-of-requires c κs = search needs
 
--- src/lib.rt:155:24
 enum-known-look : tie.Need-enum-known-look
 enum-known-look c = search needs
 
--- src/lib.rt:156:13
 put-number-requires : tie.Need-put-number-requires
 put-number-requires c κs = search needs
 
--- src/lib.rt:158:24
 one-more-requires : tie.Need-one-more-requires
 one-more-requires c κs = search needs
 
--- src/lib.rt:163:17
 enum-told : tie.Need-enum-told
 enum-told c = search needs
 
--- src/lib.rt:163:17
 value-requires : tie.Need-value-requires
 value-requires c κs = search needs
 
--- src/lib.rt:164:25
 cast-name : tie.Need-cast-name
 cast-name c = search needs
 
--- src/lib.rt:164:24
 add-name : tie.Need-add-name
-add-name c = ?
+add-name c = 
+    let start = c .before .before .before .before .before .before .before .before in
+    omega (arith, c .before .value .ensures, narrow _ _ (start .pre .1 .readable) (value-small (start .args .field) (start .args .code .now) (start .args .state .context)))
 
--- src/lib.rt:165:17
 name-requires : tie.Need-name-requires
-name-requires c κs = ?
+name-requires c κs = 
+    let start = c .before .before .before .before .before .before .before .before in
+    (start .pre .0, rw (c .before .value .ensures) (start .pre .1 .name (sym (c .before .before .before .before .look-of .ensures) ∙ c .before .before .enum-told .given .1)))
 
--- src/lib.rt:167:17
 returns : tie.Need-returns
-returns c = ?
+returns c = 
+    let start = c .before .before .before .before .before .before .before .before .before .before .before in
+    shows-hole _ _ _ _ _ _ _ _ _ (sym (c .before .before .before .before .before .before .before .look-of .ensures) ∙ c .before .before .before .before .before .enum-told .given .1)
+    (rw (c .before .before .before .before .value .ensures) at (rw (c .before .before .name .ensures) at (c .if1 .taken)))
 
--- src/lib.rt:169:36
 wide-requires : tie.Need-wide-requires
 wide-requires c κs = search needs
 
--- src/lib.rt:169:56
 cast-put-row : tie.Need-cast-put-row
-cast-put-row c = ?
+cast-put-row c = 
+    let start = c .before .before .before .before .before .before .before .before .before .before .before .before .before in
+    record { sfits = omega (arith, c .before .before .before .before .before .struct-known .given .1 .1 .1 .1 .1 .1 .0, c .before .before .before .before .before .before .value .ensures, narrow _ _ (start .pre .1 .readable) (value-small (start .args .field) (start .args .code .now) (start .args .state .context))) }
 
--- src/lib.rt:169:13
 put-row-requires : tie.Need-put-row-requires
 put-row-requires c κs = search needs
 
--- src/lib.rt:171:24
 one-more-requires-2 : tie.Need-one-more-requires-2
 one-more-requires-2 c κs = search needs
 
--- src/lib.rt:137:1
 same-length : tie.Need-same-length
 same-length c = search needs
 
--- src/lib.rt:137:1
 returns-2 : tie.Need-returns-2
-returns-2 c = ?
+returns-2 c = 
+    let start = c .before .before .before .before .before .before .before .before .before .before .before in
+    rw (c .one-more .ensures)
+    (shows-number _ _ _ _ _ _ _ _ _ (c .before .before .before .before .before .before .before .before .width-of .ensures .0) (start .pre .1 .room) (start .pre .1 .near) _ _ _
+    (sym (c .before .before .before .before .before .before .before .look-of .ensures) ∙ c .before .before .before .before .before .look .given .1) (c .before .before .put-number .ensures))
 
--- src/lib.rt:137:1
 same-length-2 : tie.Need-same-length-2
 same-length-2 c = search needs
 
--- src/lib.rt:137:1
 returns-3 : tie.Need-returns-3
-returns-3 c = ?
+returns-3 c = 
+    let start = c .before .before .before .before .before .before .before .before .before .before .before .before .before .before .before .before in
+    let name = start .args .field .first + c .before .before .before .before .before .before .before .before .before .value .result in
+    let small = narrow _ _ (start .pre .1 .readable) (value-small (start .args .field) (start .args .code .now) (start .args .state .context)) in
+    rw (c .one-more2 .ensures)
+    (shows-name _ _ _ _ _ _ _ _ _ (c .before .before .before .before .before .before .before .before .before .before .before .before .before .width-of .ensures .0) (start .pre .1 .room) (start .pre .1 .near) _
+    (sym (c .before .before .before .before .before .before .before .before .before .before .before .before .look-of .ensures) ∙ c .before .before .before .before .before .before .before .before .before .before .enum-told .given .1)
+    (rw (c .before .before .before .before .before .before .before .before .before .value .ensures) at (rw (c .before .before .before .before .before .before .before .name .ensures) at (c .before .before .before .before .before .if1 .left)))
+    (rw (c .before .before .before .before .before .before .before .before .before .value .ensures) at (rw (toZ-pos w64 {n = name} (omega (arith, c .before .before .before .before .before .before .before .before .struct-known .given .1 .1 .1 .1 .1 .1 .0, c .before .before .before .before .before .before .before .before .before .value .ensures, small)), c .before .before .before .wide .ensures .0) at (c .before .before .put-row .ensures))))
 
 pub show-spec : {M : Type 1} → statement M
 show-spec =

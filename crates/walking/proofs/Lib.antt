@@ -1,0 +1,5 @@
+-- Laws of the walk.
+pub mod Writing
+pub mod Steps
+pub mod Turns
+pub mod Readiness
