@@ -4,9 +4,9 @@ use mathlib.Core.Bool.{Bool, true, false}
 use mathlib.Core.List.{List}
 use mathlib.Core.Path.{_≡_, refl, sym, ap, _∙_}
 use native.Mathlib.Omega.{arith}
-use lib.ListN.{length, getD, drop, set}
+use lib.ListN.{length, getD, drop, set, length-set}
 use lib.Seq.{getD-drop, drop-set-lt, getD-set-same, getD-set-other}
-use Rattle.lists.proofs.Tab.{tab-at}
+use Rattle.lists.proofs.Tab.{tab-at, tab-length}
 use Rattle.format.specs.Numbers.{tables, mostConstructors}
 use Rattle.format.specs.Check.{Formed}
 use Rattle.format.specs.Description.{Description, description}
@@ -44,8 +44,8 @@ few-in b a f = rw (constructors-length b (layoutIn a)) (f .formed .room .few)
 -- the numbers that `fill` makes are those of their description
 pub fixed-of : (b : List ℕ) (l : Layout) (gather : Bool) → Formed b l → Fixed b (fixedOf (description b l) l gather)
 unfolding fixedOf
-fixed-of b l true f = record { formed = f; gathered = λ z. record { at = λ t h. tab-at (tableFirst (description b l)) (tables + 1) t 0 (omega arith) } }
-fixed-of b l false f = record { formed = f; gathered = λ z. absurd (omega arith) }
+fixed-of b l true f = record { long = let e = tab-length (tableFirst (description b l)) (tables + 1) in omega arith; formed = f; gathered = λ z. record { at = λ t h. tab-at (tableFirst (description b l)) (tables + 1) t 0 (omega arith) } }
+fixed-of b l false f = record { long = refl; formed = f; gathered = λ z. absurd (omega arith) }
 
 pub setting-of : (b : List ℕ) (l : Layout) (gather : Bool) → settingIn b (fixedOf (description b l) l gather) .description ≡ description b l
 unfolding fixedOf settingIn
@@ -63,6 +63,7 @@ module _ (b a : List ℕ) (n : ℕ) where
   pub fixed-for : Fixed b a → Fixed b (set a totalPlace n)
   fixed-for f =
       record {
+        long = length-set a totalPlace n ∙ f .long;
         formed = rw layout-for (f .formed);
         gathered = λ z. rw (layout-for, drop-set-lt startsPlace a totalPlace n (omega arith)) (f .gathered (rw (other gatheredPlace (λ e. omega arith)) at z));
       }

@@ -4,7 +4,7 @@ use Prim.Native.Nat.{ℕ, _+_, _<_}
 use mathlib.Core.Bool.{Bool, true, false}
 use mathlib.Core.List.{List, [], _∷_, _++_}
 use mathlib.Core.Path.{_≡_}
-use lib.ListN.{getD, drop, replicate}
+use lib.ListN.{length, getD, drop, replicate}
 use Rattle.lists.specs.Tab.{tab}
 use Rattle.format.specs.Numbers.{tables}
 use Rattle.format.specs.Check.{Formed}
@@ -67,5 +67,6 @@ settingIn b a = record { description = description b (layoutIn a); total = getD 
 
 -- the numbers are those of a well-formed description
 pub record Fixed (b a : List ℕ) : Type 0 where
+  pub long : length a ≡ startsPlace + (tables + 1)
   pub formed : Formed b (layoutIn a)
   pub gathered : getD a gatheredPlace 0 ≡ 1 → Starts (description b (layoutIn a)) (drop startsPlace a)

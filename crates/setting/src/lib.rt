@@ -8,7 +8,6 @@ use format::Operand;
 use format::Piece;
 use format::Section;
 use tables::Table;
-
 ghost use mathlib.Core.List.{_++_};
 ghost use mathlib.Core.Path.{_≡_};
 ghost use Prim.Native.Nat.{_+_, _-_, _<_};

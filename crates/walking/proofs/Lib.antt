@@ -3,3 +3,4 @@ pub mod Writing
 pub mod Steps
 pub mod Turns
 pub mod Readiness
+pub mod Places

@@ -257,9 +257,25 @@ fn walk_operand(
     let from = smaller(start, code.len());
     let place = at + start;
     if operand.kind == 0 {
-        return field_from(desc, fixed, operand.index, &code[from..], place, rows, state);
+        return field_from(
+            desc,
+            fixed,
+            operand.index,
+            &code[from..],
+            place,
+            rows,
+            state,
+        );
     }
-    walk_table(desc, fixed, operand.index, &code[from..], place, rows, state)
+    walk_table(
+        desc,
+        fixed,
+        operand.index,
+        &code[from..],
+        place,
+        rows,
+        state,
+    )
 }
 
 // A constructor's operands in order: the state behind them, and the farthest end from the constructor's start.

@@ -130,27 +130,29 @@ walk-constructor-one-more-requires : (t : ℕ) → walk-constructor-lts.Need-one
 walk-constructor-one-more-requires t c κs = c .before .before .before .before .pre .1 .few
 
 walk-constructor-walk-operands-requires : (t : ℕ) → walk-constructor-lts.Need-walk-operands-requires (walk-constructor-claims t) (walk-constructor-at t) walk-constructor.Post
-walk-constructor-walk-operands-requires t c κs = 
+walk-constructor-walk-operands-requires t c κs =
     let ready = c .before .before .before .before .before .pre .1 in
-    let more = ap used (c .one-more .ensures) in
-    (omega (arith, c .before .before .before .before .before .pre .0, more, ready .own .room),
-    stayed _ _ _ _ _ ready _ (omega (arith, more, ready .own .room))
-    (record { usable = rw (c .before .before .constructor .ensures) (usable _ (obeyed-in _ _ (ready .fixed)) _ (ready .own .within)); near = ready .own .near }))
+    let more = ap used (c .one-more .ensures) in (
+      omega (arith, c .before .before .before .before .before .pre .0, more, ready .own .room),
+      stayed _ _ _ _ _ ready _ (omega (arith, more, ready .own .room))
+          (record { usable = rw (c .before .before .constructor .ensures) (usable _ (obeyed-in _ _ (ready .fixed)) _ (ready .own .within)); near = ready .own .near }),
+    )
 
 walk-constructor-wide-requires : (t : ℕ) → walk-constructor-lts.Need-wide-requires (walk-constructor-claims t) (walk-constructor-at t) walk-constructor.Post
 walk-constructor-wide-requires t c κs = search needs
 
 walk-constructor-close-requires : (t : ℕ) → walk-constructor-lts.Need-close-requires (walk-constructor-claims t) (walk-constructor-at t) walk-constructor.Post
-walk-constructor-close-requires t c κs = 
-    let ready = c .before .before .before .before .before .before .before .before .before .pre .1 in
-    ((omega (arith, few-in _ _ (ready .fixed), ready .own .within), c .before .wide .ensures .1, ready .own .near, ready .own .room),
-    rw (c .before .before .before .before .one-more .ensures) at (within _ _ _ _ _ _ _ _ (c .before .before .before .walk-operands .ensures)))
+walk-constructor-close-requires t c κs =
+    let ready = c .before .before .before .before .before .before .before .before .before .pre .1 in (
+      (omega (arith, few-in _ _ (ready .fixed), ready .own .within), c .before .wide .ensures .1, ready .own .near, ready .own .room),
+      rw (c .before .before .before .before .one-more .ensures) at (within _ _ _ _ _ _ _ _ (c .before .before .before .walk-operands .ensures)),
+    )
 
 walk-constructor-same-length : (t : ℕ) → walk-constructor-lts.Need-same-length (walk-constructor-claims t) (walk-constructor-at t) walk-constructor.Post
 walk-constructor-same-length t c = search needs
 
 walk-constructor-returns : (t : ℕ) → walk-constructor-lts.Need-returns (walk-constructor-claims t) (walk-constructor-at t) walk-constructor.Post
-walk-constructor-returns t c = 
+walk-constructor-returns t c =
     constructor-closes _ _ _ _ _ _ _ _ _ _ _ _ _ _ _ (c .before .before .before .before .before .before .before .before .constructor .ensures) (c .before .before .before .wide .ensures .0) (c .before .before .before .before .before .before .one-more .ensures) (total-in _ _)
     (c .before .before .before .before .before .walk-operands .ensures) (c .before .close .ensures)
 
@@ -170,7 +172,7 @@ walk-operand-part-field-from-end : (t : ℕ) → walk-operand-lts.Need-part-fiel
 walk-operand-part-field-from-end t c = search needs
 
 walk-operand-field-from-requires : (t : ℕ) → walk-operand-lts.Need-field-from-requires (walk-operand-claims t) (walk-operand-at t) walk-operand.Post
-walk-operand-field-from-requires t c κs = 
+walk-operand-field-from-requires t c κs =
     let ready = c .before .before .before .before .before .before .before .pre .1 in
     moved _ _ _ _ _ ready _ _ (c .before .before .before .before .smaller .ensures) (ready .own .near) (ready .own .small) (ready .own .placed .field (c .before .before .if1 .taken))
 
@@ -190,10 +192,11 @@ walk-operand-part-walk-table-end : (t : ℕ) → walk-operand-lts.Need-part-walk
 walk-operand-part-walk-table-end t c = search needs
 
 walk-operand-walk-table-requires : (t : ℕ) → walk-operand-lts.Need-walk-table-requires (walk-operand-claims t) (walk-operand-at t) walk-operand.Post
-walk-operand-walk-table-requires t c κs = 
-    let ready = c .before .before .before .before .before .before .before .pre .1 in
-    (omega (arith, c .before .before .before .before .before .before .before .pre .0),
-    moved _ _ _ _ _ ready _ _ (c .before .before .before .before .smaller .ensures) (ready .own .near) (ready .own .small) (ready .own .placed .table (c .before .before .if1 .left)))
+walk-operand-walk-table-requires t c κs =
+    let ready = c .before .before .before .before .before .before .before .pre .1 in (
+      omega (arith, c .before .before .before .before .before .before .before .pre .0),
+      moved _ _ _ _ _ ready _ _ (c .before .before .before .before .smaller .ensures) (ready .own .near) (ready .own .small) (ready .own .placed .table (c .before .before .if1 .left)),
+    )
 
 walk-operand-same-length-2 : (t : ℕ) → walk-operand-lts.Need-same-length-2 (walk-operand-claims t) (walk-operand-at t) walk-operand.Post
 walk-operand-same-length-2 t c = search needs
@@ -215,7 +218,7 @@ walk-operands-wide-requires : (t : ℕ) → walk-operands-lts.Need-wide-requires
 walk-operands-wide-requires t c κs = search needs
 
 walk-operands-loop-holds : (t : ℕ) → walk-operands-lts.Need-loop-holds (walk-operands-claims t) (walk-operands-at t) walk-operands.Post walk-operands-Inv-loop walk-operands-μ-loop
-walk-operands-loop-holds t c = 
+walk-operands-loop-holds t c =
     let ready = c .before .before .before .before .pre .1 in
     first-turn _ _ _ _ _ _ _ (rw (c .wide .ensures .0) (ready .own .usable .few)) (ready .few) (ready .own .near)
 
@@ -223,7 +226,7 @@ walk-operands-add-operand : (t : ℕ) → walk-operands-lts.Need-add-operand (wa
 walk-operands-add-operand t c = search needs
 
 walk-operands-operand-requires : (t : ℕ) → walk-operands-lts.Need-operand-requires (walk-operands-claims t) (walk-operands-at t) walk-operands.Post walk-operands-Inv-loop walk-operands-μ-loop
-walk-operands-operand-requires t c κs = 
+walk-operands-operand-requires t c κs =
     let ready = c .before .before .before .before .before .before .pre .1 in
     (ready .fixed, omega (arith, ready .own .usable .inside, c .before .before .wide .ensures .0, c .loop-test .taken))
 
@@ -234,7 +237,7 @@ walk-operands-mul-start : (t : ℕ) → walk-operands-lts.Need-mul-start (walk-o
 walk-operands-mul-start t c = search needs
 
 walk-operands-array-read-start : (t : ℕ) → walk-operands-lts.Need-array-read-start (walk-operands-claims t) (walk-operands-at t) walk-operands.Post walk-operands-Inv-loop walk-operands-μ-loop
-walk-operands-array-read-start t c = 
+walk-operands-array-read-start t c =
     let ready = c .before .before .before .before .before .before .before .before .pre .1 in
     let h : c .before .before .before .loop .o < c .before .before .before .before .before .before .before .before .args .constructor .operands .count = rw (c .before .before .before .before .wide .ensures .0) at (c .before .before .loop-test .taken) in
     omega (arith, c .wide2 .ensures .0 ∙ ap (λ (x : Operand). x .anchor) (c .before .operand .ensures), ready .own .usable .anchored (c .before .before .before .loop .o) h, ready .own .usable .few)
@@ -246,16 +249,17 @@ walk-operands-add-start : (t : ℕ) → walk-operands-lts.Need-add-start (walk-o
 walk-operands-add-start t c = omega (arith, c .before .before .before .before .loop .inv .nears (c .before .wide2 .result), c .wide3 .ensures .1)
 
 walk-operands-walk-operand-requires : (t : ℕ) → walk-operands-lts.Need-walk-operand-requires (walk-operands-claims t) (walk-operands-at t) walk-operands.Post walk-operands-Inv-loop walk-operands-μ-loop
-walk-operands-walk-operand-requires t c κs = 
+walk-operands-walk-operand-requires t c κs =
     let ready = c .before .before .before .before .before .before .before .before .before .before .pre .1 in
-    let h : c .before .before .before .before .before .loop .o < c .before .before .before .before .before .before .before .before .before .before .args .constructor .operands .count = rw (c .before .before .before .before .before .before .wide .ensures .0) at (c .before .before .before .before .loop-test .taken) in
-    (omega (arith, c .before .before .before .before .before .before .before .before .before .before .pre .0, c .before .before .before .before .before .loop .inv .since, c .before .before .before .before .before .loop .inv .few),
-    stayed _ _ _ _ _ ready _ (c .before .before .before .before .before .loop .inv .few)
-    (record {
-      placed = rw (c .before .before .before .operand .ensures) (ready .own .usable .placed _ h);
-      near = ready .own .near;
-      small = omega (arith, c .before .before .before .before .before .loop .inv .nears (c .before .before .wide2 .result), c .before .wide3 .ensures .1);
-    }))
+    let h : c .before .before .before .before .before .loop .o < c .before .before .before .before .before .before .before .before .before .before .args .constructor .operands .count = rw (c .before .before .before .before .before .before .wide .ensures .0) at (c .before .before .before .before .loop-test .taken) in (
+      omega (arith, c .before .before .before .before .before .before .before .before .before .before .pre .0, c .before .before .before .before .before .loop .inv .since, c .before .before .before .before .before .loop .inv .few),
+      stayed _ _ _ _ _ ready _ (c .before .before .before .before .before .loop .inv .few)
+          (record {
+            placed = rw (c .before .before .before .operand .ensures) (ready .own .usable .placed _ h);
+            near = ready .own .near;
+            small = omega (arith, c .before .before .before .before .before .loop .inv .nears (c .before .before .wide2 .result), c .before .wide3 .ensures .1);
+          }),
+    )
 
 walk-operands-enum-known-walked : (t : ℕ) → walk-operands-lts.Need-enum-known-walked (walk-operands-claims t) (walk-operands-at t) walk-operands.Post walk-operands-Inv-loop walk-operands-μ-loop
 walk-operands-enum-known-walked t c = search needs
@@ -269,7 +273,7 @@ walk-operands-same-length : (t : ℕ) → walk-operands-lts.Need-same-length (wa
 walk-operands-same-length t c = c .before .before .before .before .walk-operand .kept .1 .1 .1 .1 .1 .1 .0 ∙ c .before .before .before .before .before .before .before .before .before .before .loop .inv .kept
 
 walk-operands-returns : (t : ℕ) → walk-operands-lts.Need-returns (walk-operands-claims t) (walk-operands-at t) walk-operands.Post walk-operands-Inv-loop walk-operands-μ-loop
-walk-operands-returns t c = 
+walk-operands-returns t c =
     rw (c .before .before .before .before .before .before .before .before .before .before .before .wide .ensures .0) at
     (refused-turn _ _ _ _ _ _ _ _ _ _ _ _ _ (c .before .before .before .before .before .before .before .before .before .before .loop .inv) _ _ _ (c .before .before .before .before .before .before .before .before .before .loop-test .taken) (c .before .before .before .before .before .before .before .before .operand .ensures) (starts-at t (c .before .before .before .before .before .before))
     (c .before .before .before .before .walk-operand .ensures) _ (c .before .walked .given .1))
@@ -278,7 +282,7 @@ walk-operands-enum-known-walked-2 : (t : ℕ) → walk-operands-lts.Need-enum-kn
 walk-operands-enum-known-walked-2 t c = search needs
 
 walk-operands-add-end : (t : ℕ) → walk-operands-lts.Need-add-end (walk-operands-claims t) (walk-operands-at t) walk-operands.Post walk-operands-Inv-loop walk-operands-μ-loop
-walk-operands-add-end t c = 
+walk-operands-add-end t c =
     let w = within _ _ _ _ _ _ _ _ (c .before .before .before .before .walk-operand .ensures) in
     let bounds : Within (c .before .before .before .before .before .before .before .before .before .before .before .before .before .before .before .args .at + (getD (c .before .before .before .before .before .before .before .before .before .before .loop .ends) (c .before .before .before .before .before .before .before .wide2 .result) 0 + c .before .before .before .before .before .before .wide3 .result)) (c .before .before .before .before .before .before .before .before .before .before .loop .passed .used) (Done (c .before .walked2 .given .0 .0) (c .before .walked2 .given .0 .1 .0)) = rw (c .before .walked2 .given .1) at w in
     omega (arith, bounds .2)
@@ -299,7 +303,7 @@ walk-operands-loop-less : (t : ℕ) → walk-operands-lts.Need-loop-less (walk-o
 walk-operands-loop-less t c = search needs
 
 walk-operands-loop-again : (t : ℕ) → walk-operands-lts.Need-loop-again (walk-operands-claims t) (walk-operands-at t) walk-operands.Post walk-operands-Inv-loop walk-operands-μ-loop
-walk-operands-loop-again t c = 
+walk-operands-loop-again t c =
     rw (c .larger .ensures)
     (next-turn _ _ _ _ _ _ _ _ _ _ _ _ _ (c .before .before .before .before .before .before .before .before .before .before .before .loop .inv) _ _ _ (c .before .before .before .before .before .before .before .before .before .before .loop-test .taken) (c .before .before .before .before .before .before .before .before .before .operand .ensures) (starts-at t (c .before .before .before .before .before .before .before))
     (c .before .before .before .before .before .walk-operand .ensures) _ _ (c .before .before .walked2 .given .1) (c .before .before .before .before .before .walk-operand .kept .1 .1 .1 .1 .1 .1 .0))
@@ -329,34 +333,35 @@ walk-table-enum-known-choice : (t : ℕ) → walk-table-lts.Need-enum-known-choi
 walk-table-enum-known-choice t c = search needs
 
 walk-table-walk-constructor-requires : (t : ℕ) → walk-table-lts.Need-walk-constructor-requires (walk-table-claims t) (walk-table-at t) walk-table.Post
-walk-table-walk-constructor-requires t c κs = 
+walk-table-walk-constructor-requires t c κs =
     let ready = c .before .before .before .before .before .before .before .before .before .before .pre .1 in
-    let e = sym (c .before .before .before .before .choose-at .ensures) ∙ c .before .before .choice .given .1 in
-    (omega (arith, c .before .before .before .before .before .before .before .before .before .before .pre .0, c .before .before .before .before .before .before .if1 .left),
-    stayed _ _ _ _ _ ready _ (ready .few)
-    (record { within = takes _ _ _ _ (obeyed-in _ _ (ready .fixed)) _ e .within; near = c .before .before .before .before .before .if2 .left; room = c .before .before .before .before .before .before .if1 .left }))
+    let e = sym (c .before .before .before .before .choose-at .ensures) ∙ c .before .before .choice .given .1 in (
+      omega (arith, c .before .before .before .before .before .before .before .before .before .before .pre .0, c .before .before .before .before .before .before .if1 .left),
+      stayed _ _ _ _ _ ready _ (ready .few)
+          (record { within = takes _ _ _ _ (obeyed-in _ _ (ready .fixed)) _ e .within; near = c .before .before .before .before .before .if2 .left; room = c .before .before .before .before .before .before .if1 .left }),
+    )
 
 walk-table-enum-told-3 : (t : ℕ) → walk-table-lts.Need-enum-told-3 (walk-table-claims t) (walk-table-at t) walk-table.Post
 walk-table-enum-told-3 t c = search needs
 
 walk-table-returns-3 : (t : ℕ) → walk-table-lts.Need-returns-3 (walk-table-claims t) (walk-table-at t) walk-table.Post
-walk-table-returns-3 t c = 
+walk-table-returns-3 t c =
     table-refused _ _ _ _ _ _ _ (c .before .before .before .before .if1 .left) (c .before .before .before .if2 .left) _ _ (sym (c .enum-told .given .1) ∙ c .before .before .choose-at .ensures) (λ w. refl)
 
 walk-table-returns-4 : (t : ℕ) → walk-table-lts.Need-returns-4 (walk-table-claims t) (walk-table-at t) walk-table.Post
-walk-table-returns-4 t c = 
+walk-table-returns-4 t c =
     table-refused _ _ _ _ _ _ _ (c .before .before .before .before .if1 .left) (c .before .before .before .if2 .left) _ _ (sym (c .enum-told2 .given .1) ∙ c .before .before .choose-at .ensures) (λ w. refl)
 
 walk-table-same-length : (t : ℕ) → walk-table-lts.Need-same-length (walk-table-claims t) (walk-table-at t) walk-table.Post
 walk-table-same-length t c = search needs
 
 walk-table-returns-5 : (t : ℕ) → walk-table-lts.Need-returns-5 (walk-table-claims t) (walk-table-at t) walk-table.Post
-walk-table-returns-5 t c = 
+walk-table-returns-5 t c =
     table-taken _ _ _ _ _ _ _ (c .before .before .before .before .before .before .before .before .if1 .left) (c .before .before .before .before .before .before .before .if2 .left) _ _ (sym (c .before .before .before .before .choice .given .1) ∙ c .before .before .before .before .before .before .choose-at .ensures)
     (c .before .walk-constructor .ensures)
 
 walk-table-returns-6 : (t : ℕ) → walk-table-lts.Need-returns-6 (walk-table-claims t) (walk-table-at t) walk-table.Post
-walk-table-returns-6 t c = 
+walk-table-returns-6 t c =
     table-refused _ _ _ _ _ _ _ (c .before .before .before .before .if1 .left) (c .before .before .before .if2 .left) _ _ (sym (c .enum-told3 .given .1) ∙ c .before .before .choose-at .ensures) (λ w. refl)
 
 pub +walk-constructor+walk-operand+walk-operands+walk-table-spec : {M : Type 1} → statement M

@@ -47,7 +47,7 @@ sub-size : tie.Need-sub-size
 sub-size c = let w = came (c .before .before .before .before .before .before) in omega arith
 
 put-row-requires : tie.Need-put-row-requires
-put-row-requires c κs = 
+put-row-requires c κs =
     let w = came (c .before .before .before .before .before .before .before) in
     let start = c .before .before .before .before .before .before .before .before .before in
     (start .pre .0 .3, start .pre .0 .0, start .pre .0 .2, omega arith)
@@ -59,7 +59,7 @@ same-length : tie.Need-same-length
 same-length c = search needs
 
 returns-4 : tie.Need-returns-4
-returns-4 c = 
+returns-4 c =
     let w = came (c .before .before .before .before .before .before .before .before .before) in
     closes-done _ _ _ _ _ _ _ _ _ _ _ (c .before .before .before .before .before .before .before .before .before .walked2 .given .1) (c .before .before .before .before .before .before .before .larger .ensures) (c .before .before .before .before .before .before .if1 .left) (c .before .before .before .before .if2 .left)
     (rw (toZ-pos w64 {n = c .before .before .before .before .before .before .before .larger .result} (omega arith)) at (c .before .put-row .ensures))

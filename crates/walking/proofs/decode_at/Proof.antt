@@ -1,3 +1,7 @@
+-- `walking::decode_at` meets its contract. Assumes nothing.
+use mathlib.Core.Path.{refl}
+use native.Mathlib.Omega.{arith}
+use Rattle.walking.proofs.Places.{root-ready, decode-refused, decode-done}
 use borrow.Author.Needs.{needs}
 use Rattle.walking.proofs.decode_at.Statement.{statement}
 use Rattle.walking.proofs.decode_at.Tie as tie
@@ -5,49 +9,38 @@ use Rattle.walking.proofs.decode_at.Reads as reads
 use Rattle.walking.proofs.decode_at.Lts as lts
 use Rattle.walking.proofs.walk_root.Reads as walk-root-reads
 
--- src/lib.rt:416:29
 sub-fixed : tie.Need-sub-fixed
 sub-fixed c = search needs
 
--- src/lib.rt:416:5
 element-write-fixed : tie.Need-element-write-fixed
 element-write-fixed c = search needs
 
--- src/lib.rt:418:50
 sub-walk-root : tie.Need-sub-walk-root
 sub-walk-root c = search needs
 
--- src/lib.rt:418:50
 part-walk-root-start : tie.Need-part-walk-root-start
 part-walk-root-start c = search needs
 
--- src/lib.rt:418:50
 part-walk-root-end : tie.Need-part-walk-root-end
 part-walk-root-end c = search needs
 
--- src/lib.rt:418:63
 slice-aggregate-walk-root : tie.Need-slice-aggregate-walk-root
 slice-aggregate-walk-root c = search needs
 
--- src/lib.rt:418:9
 walk-root-requires : tie.Need-walk-root-requires
-walk-root-requires c κs = ?
+walk-root-requires c κs = root-ready _ (c .before .before .before .before .before .args .fixed .now) (c .before .before .before .before .before .args .code .now) (c .before .before .before .before .before .args .at) 0 (omega (arith, c .before .before .before .before .before .pre .0 .long)) (c .before .before .before .before .before .pre .0)
 
--- src/lib.rt:420:25
 enum-known-walked : tie.Need-enum-known-walked
 enum-known-walked c = search needs
 
--- src/lib.rt:424:24
 enum-known-walked-2 : tie.Need-enum-known-walked-2
 enum-known-walked-2 c = search needs
 
--- src/lib.rt:405:1
 returns : tie.Need-returns
-returns c = ?
+returns c = (decode-refused _ (c .before .before .before .before .before .before .before .before .before .before .args .fixed .now) (c .before .before .before .before .before .before .before .before .before .before .args .code .now) (c .before .before .before .before .before .before .before .before .before .before .args .at) _ (omega (arith, c .before .before .before .before .before .before .before .before .before .before .pre .0 .long)) _ _ _ (c .before .before .before .before .walk-root .ensures) _ (c .before .walked .given .1), refl)
 
--- src/lib.rt:405:1
 returns-2 : tie.Need-returns-2
-returns-2 c = ?
+returns-2 c = (decode-done _ (c .before .before .before .before .before .before .before .before .before .before .args .fixed .now) (c .before .before .before .before .before .before .before .before .before .before .args .code .now) (c .before .before .before .before .before .before .before .before .before .before .args .at) _ (omega (arith, c .before .before .before .before .before .before .before .before .before .before .pre .0 .long)) _ _ _ (c .before .before .before .before .walk-root .ensures) _ _ (c .before .walked2 .given .1) refl, refl)
 
 pub decode-at-spec : {M : Type 1} → statement M
 decode-at-spec =

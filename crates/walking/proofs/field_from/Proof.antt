@@ -61,24 +61,25 @@ returns-3 : tie.Need-returns-3
 returns-3 c = field-short _ _ _ _ _ _ (c .before .before .before .before .before .before .if1 .left) _ (end-is (c .before .before .before)) (c .before .before .if2 .left) _ _ (rw total-in (c .if3 .taken))
 
 show-requires : tie.Need-show-requires
-show-requires c κs = 
+show-requires c κs =
     let start = c .before .before .before .before .before .before .before .before .before .before .before in
     let f = c .before .before .before .before .before .field .result in
-    let end = start .args .place + c .before .before .before .before .width-of .result in
-    (start .pre .fixed,
-    record {
-      readable = readable _ _ (good (c .before .before .before .before .before));
-      here = λ e. let w : c .before .before .before .before .width-of .result ≡ f .width = c .before .before .before .before .width-of .ensures .0 ∙ simp e in omega (arith, start .pre .code, total-in (start .args .desc .now) (start .args .fixed .now), c .before .if3 .left);
-      name = λ e. named-within _ f _ _ (good (c .before .before .before .before .before)) e;
-      room = c .before .before .before .before .before .before .before .if1 .left;
-      near = rw (← c .before .before .before .before .width-of .ensures .0) (near-end (start .args .place) end (c .before .before .before .if2 .left));
-    })
+    let end = start .args .place + c .before .before .before .before .width-of .result in (
+      start .pre .fixed,
+      record {
+        readable = readable _ _ (good (c .before .before .before .before .before));
+        here = λ e. let w : c .before .before .before .before .width-of .result ≡ f .width = c .before .before .before .before .width-of .ensures .0 ∙ simp e in omega (arith, start .pre .code, total-in (start .args .desc .now) (start .args .fixed .now), c .before .if3 .left);
+        name = λ e. named-within _ f _ _ (good (c .before .before .before .before .before)) e;
+        room = c .before .before .before .before .before .before .before .if1 .left;
+        near = rw (← c .before .before .before .before .width-of .ensures .0) (near-end (start .args .place) end (c .before .before .before .if2 .left));
+      },
+    )
 
 same-length : tie.Need-same-length
 same-length c = search needs
 
 returns-4 : tie.Need-returns-4
-returns-4 c = 
+returns-4 c =
     let start = c .before .before .before .before .before .before .before .before .before .before .before .before .before in
     let h = c .before .show .ensures in
     rw (field-shown (settingIn (start .args .desc .now) (start .args .fixed .now)) _ _ (start .args .code .now) (start .args .place) (start .args .state) (c .before .before .before .before .before .before .before .before .before .if1 .left) _ (end-is (c .before .before .before .before .before .before)) (c .before .before .before .before .before .if2 .left) (omega (arith, total-in (c .before .before .before .before .before .before .before .before .before .before .before .before .before .args .desc .now) (c .before .before .before .before .before .before .before .before .before .before .before .before .before .args .fixed .now), c .before .before .before .if3 .left)))

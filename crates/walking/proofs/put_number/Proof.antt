@@ -23,7 +23,7 @@ sub-bits : tie.Need-sub-bits
 sub-bits c = search needs
 
 number-requires : tie.Need-number-requires
-number-requires c κs = 
+number-requires c κs =
     let start = c .before .before .before .before .before in
     let some = bits-some _ (start .pre .0 .0) in
     (some .0, some .1, rw (c .before .before .value .ensures) (value-small _ _ _))
@@ -38,7 +38,7 @@ same-length : tie.Need-same-length
 same-length c = search needs
 
 returns : tie.Need-returns
-returns c = 
+returns c =
     rw (toZ-ofZ (record { sfits = c .before .before .before .before .number .ok }), c .before .before .before .before .number .ensures, c .before .before .before .before .before .before .before .value .ensures, c .before .before .wide .ensures .0) at (c .before .put-row .ensures)
 
 returns-2 : tie.Need-returns-2

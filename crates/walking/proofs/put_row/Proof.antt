@@ -72,7 +72,7 @@ same-length : tie.Need-same-length
 same-length c = search needs
 
 returns : tie.Need-returns
-returns c = 
+returns c =
     let start = c .before in
     let l = start .args .rows .now in
     written-row (start .args .row) _ l _ (c .if1 .taken)

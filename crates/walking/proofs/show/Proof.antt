@@ -46,17 +46,17 @@ cast-name : tie.Need-cast-name
 cast-name c = search needs
 
 add-name : tie.Need-add-name
-add-name c = 
+add-name c =
     let start = c .before .before .before .before .before .before .before .before in
     omega (arith, c .before .value .ensures, narrow _ _ (start .pre .1 .readable) (value-small (start .args .field) (start .args .code .now) (start .args .state .context)))
 
 name-requires : tie.Need-name-requires
-name-requires c κs = 
+name-requires c κs =
     let start = c .before .before .before .before .before .before .before .before in
     (start .pre .0, rw (c .before .value .ensures) (start .pre .1 .name (sym (c .before .before .before .before .look-of .ensures) ∙ c .before .before .enum-told .given .1)))
 
 returns : tie.Need-returns
-returns c = 
+returns c =
     let start = c .before .before .before .before .before .before .before .before .before .before .before in
     shows-hole _ _ _ _ _ _ _ _ _ (sym (c .before .before .before .before .before .before .before .look-of .ensures) ∙ c .before .before .before .before .before .enum-told .given .1)
     (rw (c .before .before .before .before .value .ensures) at (rw (c .before .before .name .ensures) at (c .if1 .taken)))
@@ -65,7 +65,7 @@ wide-requires : tie.Need-wide-requires
 wide-requires c κs = search needs
 
 cast-put-row : tie.Need-cast-put-row
-cast-put-row c = 
+cast-put-row c =
     let start = c .before .before .before .before .before .before .before .before .before .before .before .before .before in
     record { sfits = omega (arith, c .before .before .before .before .before .struct-known .given .1 .1 .1 .1 .1 .1 .0, c .before .before .before .before .before .before .value .ensures, narrow _ _ (start .pre .1 .readable) (value-small (start .args .field) (start .args .code .now) (start .args .state .context))) }
 
@@ -79,7 +79,7 @@ same-length : tie.Need-same-length
 same-length c = search needs
 
 returns-2 : tie.Need-returns-2
-returns-2 c = 
+returns-2 c =
     let start = c .before .before .before .before .before .before .before .before .before .before .before in
     rw (c .one-more .ensures)
     (shows-number _ _ _ _ _ _ _ _ _ (c .before .before .before .before .before .before .before .before .width-of .ensures .0) (start .pre .1 .room) (start .pre .1 .near) _ _ _
@@ -89,7 +89,7 @@ same-length-2 : tie.Need-same-length-2
 same-length-2 c = search needs
 
 returns-3 : tie.Need-returns-3
-returns-3 c = 
+returns-3 c =
     let start = c .before .before .before .before .before .before .before .before .before .before .before .before .before .before .before .before in
     let name = start .args .field .first + c .before .before .before .before .before .before .before .before .before .value .result in
     let small = narrow _ _ (start .pre .1 .readable) (value-small (start .args .field) (start .args .code .now) (start .args .state .context)) in

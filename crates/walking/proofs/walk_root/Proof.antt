@@ -1,3 +1,9 @@
+-- `walking::walk_root` meets its contract. Assumes nothing.
+use mathlib.Core.Path.{sym, _∙_}
+use native.Mathlib.Omega.{arith}
+use Rattle.decoding_theorems.proofs.Records.{root-low}
+use Rattle.setting.proofs.Laws.{obeyed-in, some-in}
+use Rattle.walking.proofs.Turns.{root-refused, root-empty, root-done}
 use borrow.Author.Needs.{needs}
 use Rattle.walking.proofs.walk_root.Statement.{statement}
 use Rattle.walking.proofs.walk_root.Tie as tie
@@ -6,45 +12,44 @@ use Rattle.walking.proofs.walk_root.Lts as lts
 use Rattle.setting.proofs.root.Reads as root-reads
 use Rattle.walking.proofs.walk_table.Reads as walk-table-reads
 
--- src/lib.rt:369:9
 root-requires : tie.Need-root-requires
 root-requires c κs = search needs
 
--- src/lib.rt:375:9
 walk-table-requires : tie.Need-walk-table-requires
-walk-table-requires c κs = ?
+walk-table-requires c κs =
+    let start = c .before .before .before .before in
+    let fixed = start .pre .0 in
+    record {
+      fixed = fixed;
+      code = omega (arith, start .pre .1);
+      close = omega arith;
+      few = omega arith;
+      own = rw (c .before .root .ensures) (root-low _ (obeyed-in _ _ fixed) (some-in _ _ fixed));
+    }
 
--- src/lib.rt:377:25
 enum-known-walked : tie.Need-enum-known-walked
 enum-known-walked c = search needs
 
--- src/lib.rt:378:24
 enum-known-walked-2 : tie.Need-enum-known-walked-2
 enum-known-walked-2 c = search needs
 
--- src/lib.rt:380:17
 same-length : tie.Need-same-length
 same-length c = search needs
 
--- src/lib.rt:380:17
 returns : tie.Need-returns
-returns c = ?
+returns c = root-empty _ _ _ _ (c .before .before .before .before .before .before .before .root .ensures) _ _ _ (c .before .before .before .before .before .walk-table .ensures) _ _ (c .before .before .walked2 .given .1) (c .if1 .taken)
 
--- src/lib.rt:359:1
 same-length-2 : tie.Need-same-length-2
 same-length-2 c = search needs
 
--- src/lib.rt:359:1
 returns-2 : tie.Need-returns-2
-returns-2 c = ?
+returns-2 c = root-refused _ _ _ _ (c .before .before .before .before .before .before .root .ensures) _ _ _ (c .before .before .before .before .walk-table .ensures) _ (c .before .walked .given .1)
 
--- src/lib.rt:359:1
 same-length-3 : tie.Need-same-length-3
 same-length-3 c = search needs
 
--- src/lib.rt:359:1
 returns-3 : tie.Need-returns-3
-returns-3 c = ?
+returns-3 c = root-done _ _ _ _ (c .before .before .before .before .before .before .before .root .ensures) _ _ _ (c .before .before .before .before .before .walk-table .ensures) _ _ (c .before .before .walked2 .given .1) (c .if1 .left)
 
 pub walk-root-spec : {M : Type 1} → statement M
 walk-root-spec =
