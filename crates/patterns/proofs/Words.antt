@@ -15,8 +15,9 @@ use Rattle.bits.proofs.Words.{agrees-law, inside-law, apart-law, ones-law, set-
 use Rattle.format.specs.declared.Pattern.{Pattern}
 use Rattle.patterns.specs.Matching.{byteBit, present, contextAgrees, matches, agrees, masksMissing, cutOff}
 use Rattle.patterns.specs.Relations.{inside, insideBits, overlap, meetBits, weight}
-use Rattle.patterns.specs.Words.{Holds, Small, wordsAgree, wordsWhole}
+use Rattle.patterns.specs.Words.{Small, wordsAgree, wordsWhole}
 use Rattle.patterns.specs.declared.Input.{Input}
+use Rattle.patterns.proofs.Bytes.{Holds}
 
 pub inside-is : (a b : Pattern) → Small a → Small b
     → (eqb (bitAnd (bitOr (bitXor (a .mask) (b .mask)) (bitXor (a .value) (b .value))) (b .mask)) 0
