@@ -1,4 +1,4 @@
--- "An answer, unless "short", stays the same whatever bytes follow", for an asked table.
+-- Demand 2 for an asked table: an answer, unless short, stays the same whatever bytes follow.
 use Prim.Native.Nat.{ℕ, _-_}
 use mathlib.Core.Bool.{Bool, true, false, cond}
 use mathlib.Core.List.{List, _++_}

@@ -13,9 +13,13 @@ module _ (at : ℕ → Pattern) (n : ℕ) where
   unfoldable pub crossing : ℕ → ℕ → Bool
   crossing i j = overlap (at i) (at j) && not (inside (at i) (at j)) && not (inside (at j) (at i))
 
+  -- a record other than i and j has pattern p
+  abbrev pub another : ℕ → ℕ → Pattern → Bool
+  another i j p = anyBelow n (λ t. not (eqb t i) && not (eqb t j) && equal (at t) p)
+
   -- "third in the table equal to exactly their overlap"
   unfoldable pub third : ℕ → ℕ → Bool
-  third i j = anyBelow n (λ t. not (eqb t i) && not (eqb t j) && equal (at t) (overlapOf (at i) (at j)))
+  third i j = another i j (overlapOf (at i) (at j))
 
   -- "patterns are equal, or overlap with neither inside the other and no third in the table equal to exactly their overlap"
   unfoldable pub clashing : ℕ → ℕ → Bool
