@@ -1,6 +1,7 @@
 -- The clash check of a table: `at j` is the pattern of record j, and there are n.
 use Prim.Native.Nat.{ℕ}
 use mathlib.Core.Bool.{Bool, cond, _&&_, _||_, not}
+use mathlib.Core.List.{List, [], _∷_}
 use lib.Dec.{eqb, ltb, leb}
 use Rattle.lists.specs.Below.{anyBelow, firstBelow}
 use Rattle.patterns.specs.Relations.{inside, overlap, overlapOf, equal}
@@ -36,3 +37,12 @@ module _ (at : ℕ → Pattern) (n : ℕ) where
   -- "the pair of records i < j with smallest i, then j .. else clear"
   unfoldable pub clashOf : Clash
   clashOf = cond (ltb firstClash n) (Pair firstClash (partner firstClash)) Clear
+
+-- its number in document 01's table, since a clash is an answer and not a refusal ..
+abbrev pub clashNumber : Clash → ℕ
+clashNumber r = 0
+
+-- .. and its values: 0 for clear, or 1 and the pair, numbered within the table
+abbrev pub clashValues : Clash → List ℕ
+clashValues Clear = 0 ∷ []
+clashValues (Pair i j) = 1 ∷ i ∷ j ∷ []
