@@ -2,8 +2,7 @@
 use Prim.Native.Nat.{ℕ, _+_, _-_}
 use mathlib.Core.Bool.{Bool, true, false, cond}
 use mathlib.Core.List.{List, _++_}
-use mathlib.Core.Path.{_≡_, refl, ap, sym, _∙_}
-use native.Mathlib.Omega.{arith}
+use mathlib.Core.Path.{_≡_, refl, ap}
 use Rattle.format.specs.Check.{checkOf}
 use Rattle.format.specs.Description.{Description, description}
 use Rattle.format.specs.Rules.{hasTable}
@@ -12,11 +11,10 @@ use Rattle.format.specs.declared.Checked.{Checked}
 use Rattle.format.specs.declared.Checked.the-variants.{Good, Fault}
 use Rattle.format.specs.declared.Layout.{Layout}
 use Rattle.format.proofs.Formation.{Obeyed, formed, obeyed}
-use Rattle.patterns.specs.Relations.{weight}
 use Rattle.choice.specs.declared.Choice.{Choice}
 use Rattle.choice.specs.declared.Choice.the-variants as choice
 use Rattle.choosing.specs.Table.{patternFrom, chooseIn}
-use Rattle.choosing.specs.Records.{patternOf, TakenIn, NoneIn}
+use Rattle.choosing.specs.Records.{NoneIn}
 use Rattle.choosing.proofs.Records.{taken-in, none-in}
 use Rattle.choosing_facts.proofs.Stays.{stays}
 use Rattle.asking.specs.Asking.{answered, askIn, asked, askOf}

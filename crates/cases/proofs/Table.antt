@@ -1,6 +1,5 @@
 -- Every worked case that document 01 marks with a star holds, by computation.
 use Prim.Native.Nat.{ℕ, _<_}
-use mathlib.Core.Bool.{true}
 use native.Mathlib.Omega.{arith}
 use lib.Dec.{lit<, lit≤}
 use mathlib.Core.Path.{_≡_, refl}

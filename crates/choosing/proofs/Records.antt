@@ -1,13 +1,11 @@
 -- A choice in a table, by records of section 3.
-use Prim.Native.Nat.{ℕ, _+_, _-_, _<_, _≤_}
+use Prim.Native.Nat.{ℕ, _+_, _-_, _<_}
 use mathlib.Core.Bool.{true, false, false≢true}
 use mathlib.Core.List.{List}
-use mathlib.Core.Path.{_≡_, refl, sym, ap, _∙_}
+use mathlib.Core.Path.{_≡_, sym, ap, _∙_}
 use native.Mathlib.Decide.{ℕ-discrete}
 use native.Mathlib.Omega.{arith}
-use lib.ListN.{length}
 use Rattle.format.specs.Description.{Description}
-use Rattle.format.specs.Rules.{tableAt}
 use Rattle.format.specs.Tables.{tableFirst, tableEnd}
 use Rattle.format.proofs.Formation.{Obeyed}
 use Rattle.format.proofs.Tables.{in-table, of-table, end-within}

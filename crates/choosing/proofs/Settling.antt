@@ -1,19 +1,19 @@
 -- What the words settle is what choosing answers.
 use Prim.Native.Nat.{ℕ, _+_, _*_, _<_, _^_}
-use mathlib.Core.Bool.{Bool, true, false, not, _&&_}
+use mathlib.Core.Bool.{Bool, true, false, not}
 use mathlib.Core.List.{List}
 use mathlib.Core.Path.{_≡_, refl, sym, ap, fun-ext, _∙_}
 use native.Mathlib.Decide.{decLt}
 use native.Mathlib.Omega.{arith}
 use lib.Dec.{lit<}
-use lib.ListN.{length, getD, List·getD-eq-default}
+use lib.ListN.{getD, List·getD-eq-default}
 use Rattle.lists.specs.Below.{anyBelow}
 use Rattle.lists.proofs.Below.{any-found}
 use Rattle.format.specs.Description.{description, constructorsOf, noConstructor}
 use Rattle.format.specs.declared.Layout.{Layout}
 use Rattle.format.specs.declared.Pattern.{Pattern}
 use Rattle.format.proofs.Lists.{constructor-here, constructors-length}
-use Rattle.patterns.specs.Matching.{matches, agrees, masksMissing, cutOff}
+use Rattle.patterns.specs.Matching.{matches, cutOff}
 use Rattle.patterns.specs.Words.{Small, inputOf}
 use Rattle.patterns.specs.declared.Input.{Input}
 use Rattle.patterns.proofs.Bytes.{Holds, long-small, quad-small, input-holds}

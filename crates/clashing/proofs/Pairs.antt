@@ -5,7 +5,7 @@ use mathlib.Core.Path.{_≡_, refl, sym, _∙_}
 use native.Mathlib.Omega.{arith}
 use borrow.Author.Tests.{lt-ltb, le-ltb, le-leb, lt-leb, eq-eqb, eqb-true}
 use lib.Dec.{eqb, ltb, leb}
-use Rattle.lists.specs.Below.{allBelow, anyBelow, firstBelow}
+use Rattle.lists.specs.Below.{allBelow, firstBelow}
 use Rattle.lists.proofs.Bools.{and4, and-both, or-yes}
 use Rattle.lists.proofs.Below.{all-of, all-more, first-stop, first-done}
 use Rattle.bits.specs.Bits.{bit, isSet}

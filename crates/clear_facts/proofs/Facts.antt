@@ -4,7 +4,7 @@ use mathlib.Core.Bool.{Bool, true, false, cond}
 use mathlib.Core.List.{List, _++_}
 use mathlib.Core.Path.{_≡_, refl, sym, ap, _∙_}
 use native.Mathlib.Omega.{arith}
-use lib.ListN.{length, getD, length-append}
+use lib.ListN.{getD, length-append}
 use Rattle.format.specs.Check.{checkOf, Formed}
 use Rattle.format.specs.Description.{Description, description}
 use Rattle.format.specs.Rules.{hasTable}
@@ -19,13 +19,11 @@ use Rattle.choice.specs.declared.Choice.the-variants as choice
 use Rattle.choice.specs.declared.Clash.{Clash}
 use Rattle.choice.specs.declared.Clash.the-variants as clash
 use Rattle.choosing.specs.Table.{patternFrom, chooseIn}
-use Rattle.choosing_facts.specs.Continuing.{Differ}
-use Rattle.asking.specs.Asking.{answered, askIn, asked, askOf}
+use Rattle.asking.specs.Asking.{answered, askIn, askOf}
 use Rattle.asking.specs.declared.Asked.{Asked}
 use Rattle.asking.specs.declared.Asked.the-variants.{Done, Malformed, NoTable, Short, NoMatch, Ambiguous}
 use Rattle.asking.proofs.Facts.{ask-stays}
 use Rattle.clashing.specs.Entry.{placed, clashIn, judgedBy, clashAnswer}
-use Rattle.clashing.specs.declared.Judged.{Judged}
 use Rattle.clashing.specs.declared.Judged.the-variants as judged
 use Rattle.clashing.proofs.Facts.{clear-table, short-table}
 use Rattle.clear_facts.specs.Continuing.{AskedApart}

@@ -1,6 +1,5 @@
 // Patterns on machine words: no loop over bits.
 use format::Pattern;
-ghost use mathlib.Core.Bool.{true};
 ghost use mathlib.Core.Path.{_≡_};
 ghost use Prim.Native.Nat.{_-_, _<_, _*_, _^_};
 ghost use lib.ListN.{length};

@@ -19,10 +19,9 @@ use Rattle.trees.specs.declared.Form.{Form}
 use Rattle.trees.specs.declared.Form.the-variants as form
 use Rattle.trees.specs.declared.Verdict.{Verdict}
 use Rattle.trees.specs.declared.Verdict.the-variants as verdict
-use Rattle.tree_check.specs.Entry.{said, ByForm, ForRecords, ByTable, ForTable, ByCheck, Answers}
+use Rattle.tree_check.specs.Entry.{said, ByForm, ByTable, ByCheck, Answers}
 use Rattle.tree_check.specs.Facts.{Alike}
 use Rattle.tree_check.specs.declared.Answer.{Answer}
-use Rattle.tree_check.specs.declared.Answer.the-variants.{Malformed, NoTable, BadTree}
 
 module _ (first : ℕ) (at : ℕ → Pattern) (n : ℕ) (b : List ℕ) where
   -- no tree is both accepted and rejected

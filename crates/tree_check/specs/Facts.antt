@@ -4,7 +4,7 @@ use mathlib.Core.Path.{_≡_}
 use Rattle.tree_check.specs.declared.Answer.{Answer}
 use Rattle.tree_check.specs.declared.Answer.the-variants.{Accepted, Rejected, Malformed, NoTable, BadTree}
 
--- r is answer a, but for the eight bytes and the context of a rejection, which name the same node
+-- the second answer is the first; where a leaf is wrong it names the same node, and its eight bytes and context are left open
 abbrev pub Alike : Answer → Answer → Type 0
 Alike (Rejected i w c) r = (x : ℕ) × (y : ℕ) × (r ≡ Rejected i x y)
 Alike Accepted r = r ≡ Accepted

@@ -1,32 +1,27 @@
 -- From the rule on patterns to demand 3: what no record shows wrong is right for every input, and what one shows wrong has its
 -- example.
 use Prim.Native.Nat.{ℕ, zero, suc, _+_, _^_, _<_, _≤_}
-use mathlib.Core.Bool.{Bool, true, false, not, _&&_, false≢true}
+use mathlib.Core.Bool.{true, false, false≢true}
 use mathlib.Core.List.{List}
-use mathlib.Core.Logic.{_⊎_}
-use mathlib.Core.Path.{_≡_, refl, sym, ap, _∙_}
+use mathlib.Core.Path.{_≡_, refl, sym, _∙_}
 use native.Mathlib.Decide.{decLt}
 use native.Mathlib.Nat.{zero-div}
 use native.Mathlib.Omega.{arith}
 use borrow.Author.Tests.{eq-eqb, eqb-true}
 use lib.Dec.{eqb, lit<}
-use lib.ListN.{length}
-use Rattle.lists.specs.Below.{anyBelow}
 use Rattle.bits.specs.Bits.{isSet}
 use Rattle.format.specs.declared.Pattern.{Pattern}
 use Rattle.patterns.specs.Matching.{matches}
-use Rattle.choice.specs.Choosing.{choose}
 use Rattle.choice.specs.Sound.{Sound}
-use Rattle.choosing_facts.proofs.None.{none-at}
 use Rattle.choosing_facts.proofs.Fits.{fits-matches}
-use Rattle.trees.specs.Nodes.{nowhere, countOf, kindAt, bitAt, placeAt}
-use Rattle.trees.specs.Form.{start, side, nodeOk, formOf}
-use Rattle.trees.specs.Reach.{reachOf, reachFrom, right, provesWrong, Input}
-use Rattle.trees.specs.Judged.{bytesOf, Accepts, Rejects}
+use Rattle.trees.specs.Nodes.{countOf, kindAt, bitAt, placeAt}
+use Rattle.trees.specs.Form.{start, side, formOf}
+use Rattle.trees.specs.Reach.{reachOf, provesWrong, Input}
+use Rattle.trees.specs.Judged.{Accepts, Rejects}
 use Rattle.trees.specs.declared.Form.the-variants.{Good}
 use Rattle.tree_form.proofs.Trees.{Tree, tip, fork, tree-of, leaf-says}
 use Rattle.tree_rule.specs.Rule.{Says, showsWrong, exampleWord, exampleContext}
-use Rattle.tree_rule.proofs.Rule.{Example, good-right, bad-wrong}
+use Rattle.tree_rule.proofs.Rule.{good-right, bad-wrong}
 use Rattle.tree_leaves.specs.Path.{pathFrom, pathOf}
 use Rattle.tree_leaves.proofs.Sides.{sound-start}
 use Rattle.tree_leaves.proofs.Reach.{span, side-sound, path-end, path-zero, path-one, Lands, lands, reach-path}

@@ -4,10 +4,8 @@ use Rattle.choosing_facts.proofs.Taken.{taken-facts}
 use Rattle.tables.proofs.Range.{absent, there, in-section}
 use Rattle.format.proofs.Lists.{constructors-length}
 use Rattle.format.proofs.Formation.{obeyed}
-use Rattle.format.specs.Description.{description}
 use native.Mathlib.Omega.{arith}
-use mathlib.Core.Path.{_≡_, refl, sym, _∙_}
-use Prim.Native.Nat.{_<_}
+use mathlib.Core.Path.{refl, sym, _∙_}
 use borrow.Author.Needs.{needs}
 use Rattle.asking.proofs.ask_in.Statement.{statement}
 use Rattle.asking.proofs.ask_in.Tie as tie

@@ -1,9 +1,7 @@
 use Rattle.choosing.proofs.Settling.{rows-small, cut-short, settled}
-use Rattle.choosing.specs.Scan.{Tells}
 use Rattle.choosing.specs.Table.{patternFrom}
 use Rattle.format.specs.Description.{description}
 use native.Mathlib.Omega.{arith}
-use mathlib.Core.Path.{sym, _∙_}
 use borrow.Author.Needs.{needs}
 use Rattle.choosing.proofs.choose_in.Statement.{statement}
 use Rattle.choosing.proofs.choose_in.Tie as tie

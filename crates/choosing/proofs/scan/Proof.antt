@@ -3,14 +3,13 @@ use Rattle.choosing.proofs.Keeping.{is-match, is-short, is-none}
 use Rattle.choosing.proofs.Keeping.{kept-none, kept-skip, kept-met, none-more}
 use Rattle.choosing.specs.Scan.{wordShort, wordMatch, Kept}
 use Rattle.choosing.specs.Table.{patternFrom}
-use Rattle.patterns.specs.Words.{wordsAgree, wordsWhole}
 use Rattle.format.specs.Description.{description}
 use Rattle.lists.proofs.Below.{any-none, any-at}
 use Rattle.lists.specs.Below.{anyBelow}
 use borrow.Author.Needs.{needs}
 use native.Mathlib.Omega.{arith}
-use mathlib.Core.Path.{_≡_, refl, sym, ap, _∙_}
-use mathlib.Core.Bool.{true, false, not, _&&_}
+use mathlib.Core.Path.{_≡_, sym, _∙_}
+use mathlib.Core.Bool.{false}
 use Prim.Native.Nat.{ℕ, _≤_, _-_}
 use Rattle.choosing.proofs.scan.Statement.{statement}
 use Rattle.choosing.proofs.scan.Tie as tie

@@ -1,8 +1,5 @@
 use Rattle.choosing.proofs.Keeping.{clears-inmost, inmost-clears}
-use Rattle.choosing.specs.Scan.{wordMatch}
-use Rattle.choosing.specs.Table.{patternFrom}
-use Rattle.format.specs.Description.{description}
-use mathlib.Core.Path.{_≡_, sym, _∙_}
+use mathlib.Core.Path.{sym, _∙_}
 use mathlib.Core.Bool.{true, false, false≢true}
 use borrow.Author.Needs.{needs}
 use Rattle.choosing.proofs.settle.Statement.{statement}

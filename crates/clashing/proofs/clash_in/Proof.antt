@@ -5,7 +5,7 @@ use Rattle.tables.proofs.Range.{absent, there, in-section}
 use Rattle.format.proofs.Lists.{constructors-length}
 use Rattle.format.proofs.Formation.{obeyed}
 use native.Mathlib.Omega.{arith}
-use mathlib.Core.Path.{_≡_, refl, sym, _∙_}
+use mathlib.Core.Path.{sym, _∙_}
 use Prim.Native.Nat.{_+_, _≤_}
 use borrow.Author.Needs.{needs}
 use Rattle.clashing.proofs.clash_in.Statement.{statement}

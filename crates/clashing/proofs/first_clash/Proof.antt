@@ -5,9 +5,9 @@ use Rattle.lists.proofs.Below.{all-none}
 use Rattle.lists.specs.Below.{allBelow}
 use borrow.Author.Needs.{needs}
 use native.Mathlib.Omega.{arith}
-use mathlib.Core.Path.{_≡_, sym, _∙_}
+use mathlib.Core.Path.{_≡_}
 use mathlib.Core.Bool.{true}
-use Prim.Native.Nat.{ℕ, _≤_, _-_}
+use Prim.Native.Nat.{_≤_, _-_}
 use Rattle.clashing.proofs.first_clash.Statement.{statement}
 use Rattle.clashing.proofs.first_clash.Tie as tie
 use Rattle.clashing.proofs.first_clash.Reads as reads

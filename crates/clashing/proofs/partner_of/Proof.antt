@@ -2,11 +2,10 @@ use Rattle.clashing.proofs.Pairs.{parted, parted-first, parted-more, pa
 use Rattle.choosing.specs.Table.{patternFrom}
 use Rattle.format.specs.Description.{description}
 use Rattle.lists.specs.Below.{allBelow}
-use borrow.Author.Needs.{needs}
 use native.Mathlib.Omega.{arith}
 use mathlib.Core.Path.{_≡_, sym, _∙_}
 use mathlib.Core.Bool.{true}
-use Prim.Native.Nat.{ℕ, _≤_, _+_, _-_}
+use Prim.Native.Nat.{_≤_, _+_, _-_}
 use Rattle.clashing.proofs.partner_of.Statement.{statement}
 use Rattle.clashing.proofs.partner_of.Tie as tie
 use Rattle.clashing.proofs.partner_of.Reads as reads

@@ -1,7 +1,6 @@
 use Rattle.patterns.proofs.Bytes.{shifted, whole-input, few-input}
 use lib.Pow.{pow-pos}
 use lib.ListN.{length}
-use native.Mathlib.Omega.{arith}
 use Prim.Native.Nat.{_*_}
 use borrow.Author.Needs.{needs}
 use Rattle.patterns.proofs.input_of.Statement.{statement}

@@ -1,8 +1,7 @@
 use Rattle.patterns.proofs.Bytes.{quad-same}
 use mathlib.Core.List.{List}
 use lib.Seq.{getD-set-same, getD-set-other}
-use lib.ListN.{length, getD, set, length-set, length-replicate, getD-replicate, List·getD-eq-default}
-use borrow.Author.Needs.{needs}
+use lib.ListN.{length, getD, set, length-set, getD-replicate, List·getD-eq-default}
 use native.Mathlib.Omega.{arith}
 use native.Mathlib.Decide.{ℕ-discrete, decLt}
 use mathlib.Core.Path.{_≡_, refl, sym, _∙_}

@@ -1,11 +1,11 @@
 use borrow.Author.Needs.{needs}
 use Rattle.trees.specs.Nodes.{countOf}
 use Rattle.tree_check.proofs.Searching.{shown-is}
-use Prim.Native.Nat.{ℕ, _≤_, _-_}
-use mathlib.Core.Bool.{true, false}
+use Prim.Native.Nat.{_≤_, _-_}
+use mathlib.Core.Bool.{false}
 use mathlib.Core.Path.{_≡_, refl, sym, _∙_}
 use native.Mathlib.Omega.{arith}
-use Rattle.tree_check.proofs.Searching.{shows-is, clear-none, clear-more, none-more}
+use Rattle.tree_check.proofs.Searching.{clear-none, clear-more, none-more}
 use Rattle.tree_form.proofs.Trees.{tree-of, sized, good-counted}
 use Rattle.tree_leaves.proofs.Judging.{tree-says}
 use Rattle.tree_leaves.specs.Path.{pathOf}

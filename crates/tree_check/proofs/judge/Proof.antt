@@ -1,7 +1,6 @@
 use Rattle.tree_check.proofs.Verdicts.{accepted, rejected}
 use Rattle.tree_check.specs.Search.{FirstWrong}
 use Rattle.tree_form.proofs.Trees.{sized, good-counted}
-use mathlib.Core.Path.{_≡_, refl, sym, _∙_}
 use native.Mathlib.Omega.{arith}
 use borrow.Author.Needs.{needs}
 use Rattle.tree_check.proofs.judge.Statement.{statement}

@@ -1,4 +1,4 @@
-use mathlib.Core.Path.{_≡_, refl, sym, _∙_}
+use mathlib.Core.Path.{sym, _∙_}
 use Rattle.format.proofs.Formation.{formed}
 use borrow.Author.Needs.{needs}
 use Rattle.tree_check.proofs.tree_check.Statement.{statement}

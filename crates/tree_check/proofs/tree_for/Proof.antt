@@ -1,5 +1,5 @@
 use Rattle.tree_form.proofs.Trees.{sized, good-counted}
-use mathlib.Core.Path.{_≡_, refl, sym, _∙_}
+use mathlib.Core.Path.{sym, _∙_}
 use native.Mathlib.Omega.{arith}
 use borrow.Author.Needs.{needs}
 use Rattle.tree_check.proofs.tree_for.Statement.{statement}

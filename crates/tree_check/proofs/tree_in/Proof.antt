@@ -1,4 +1,3 @@
-use mathlib.Core.Path.{_≡_, refl, sym, _∙_}
 use Rattle.format.proofs.Formation.{obeyed}
 use Rattle.format.proofs.Lists.{constructors-length}
 use Rattle.tables.proofs.Range.{absent, there, in-section}
