@@ -2,20 +2,27 @@
 use Prim.Native.Nat.{ℕ, _+_, _-_}
 use mathlib.Core.Bool.{Bool, true, false, cond}
 use mathlib.Core.List.{List, _++_}
-use mathlib.Core.Path.{_≡_, refl, ap}
+use mathlib.Core.Path.{_≡_, refl, ap, _∙_}
+use native.Mathlib.Omega.{arith}
+use borrow.Author.Tests.{eq-eqb}
+use lib.Dec.{eqb}
+use lib.ListN.{length}
+use Rattle.lists.proofs.Below.{any-at}
 use Rattle.format.specs.Check.{checkOf}
 use Rattle.format.specs.Description.{Description, description}
-use Rattle.format.specs.Rules.{hasTable}
+use Rattle.format.specs.Rules.{tableAt, hasTable}
 use Rattle.format.specs.Tables.{tableFirst, tableEnd}
 use Rattle.format.specs.declared.Checked.{Checked}
 use Rattle.format.specs.declared.Checked.the-variants.{Good, Fault}
 use Rattle.format.specs.declared.Layout.{Layout}
+use Rattle.format.proofs.Tables.{of-table}
 use Rattle.format.proofs.Formation.{Obeyed, formed, obeyed}
+use Rattle.patterns.specs.Relations.{weight}
 use Rattle.choice.specs.declared.Choice.{Choice}
 use Rattle.choice.specs.declared.Choice.the-variants as choice
 use Rattle.choosing.specs.Table.{patternFrom, chooseIn}
-use Rattle.choosing.specs.Records.{NoneIn}
-use Rattle.choosing.proofs.Records.{taken-in, none-in}
+use Rattle.choosing.specs.Records.{patternOf, TakenIn, NoneIn}
+use Rattle.choosing.proofs.Records.{taken-in, none-in, in-taken, in-none}
 use Rattle.choosing_facts.proofs.Stays.{stays}
 use Rattle.asking.specs.Asking.{answered, askIn, asked, askOf}
 use Rattle.asking.specs.Facts.{TakenWith}
@@ -73,3 +80,28 @@ module _ (b : List ℕ) (l : Layout) (good : checkOf b ≡ Good l) (t c : ℕ) (
   -- "no match" means that none matches
   pub ask-none : askOf b t c s ≡ NoMatch t → NoneIn (description b l) t s c
   ask-none e = rw e at says
+
+  -- a table that is there answers by its choice
+  pub by-choice : hasTable (description b l) t ≡ true → askOf b t c s ≡ answered (description b l) t (chooseIn (description b l) t s c)
+  unfolding askOf askIn
+  by-choice h = rw (good, h)
+
+  -- and back, unless short: the constructor that is taken is answered, with its weight ..
+  pub done-ask : (k : ℕ) → TakenIn (description b l) t s c k → (askOf b t c s ≡ Short → ⊥)
+      → askOf b t c s ≡ Done k (weight (patternOf (description b l) k))
+  unfolding hasTable patternFrom
+  done-ask k r f =
+      let d = description b l in
+      let o = obeyed b l (formed b l good) in
+      let m = r .is .matching in
+      let j = k - tableFirst d t in
+      let e : tableFirst d t + j ≡ k = omega (arith, of-table d o t k (m .there) (m .table) .0) in
+      let h : hasTable d t ≡ true = any-at (λ i. eqb (tableAt d i) t) (length (d .constructors)) k (m .there) (eq-eqb (tableAt d k) t (m .table)) in
+      let x : chooseIn d t s c ≡ choice.Taken j = in-taken d o t s c j (rw e r) (λ q. f (by-choice h ∙ ap (answered d t) q)) in
+      by-choice h ∙ (ap (answered d t) x ∙ ap (λ y. Done y (weight (patternOf d y))) e)
+
+  -- .. and "no match" where none matches
+  pub none-ask : hasTable (description b l) t ≡ true → NoneIn (description b l) t s c → (askOf b t c s ≡ Short → ⊥) → askOf b t c s ≡ NoMatch t
+  none-ask h r f =
+      let d = description b l in
+      by-choice h ∙ ap (answered d t) (in-none d (obeyed b l (formed b l good)) t s c r (λ q. f (by-choice h ∙ ap (answered d t) q)))

@@ -19,10 +19,10 @@ use Rattle.choice.specs.declared.Choice.the-variants as choice
 use Rattle.choice.specs.declared.Clash.{Clash}
 use Rattle.choice.specs.declared.Clash.the-variants as clash
 use Rattle.choosing.specs.Table.{patternFrom, chooseIn}
-use Rattle.asking.specs.Asking.{answered, askIn, askOf}
+use Rattle.asking.specs.Asking.{answered, askOf}
 use Rattle.asking.specs.declared.Asked.{Asked}
 use Rattle.asking.specs.declared.Asked.the-variants.{Done, Malformed, NoTable, Short, NoMatch, Ambiguous}
-use Rattle.asking.proofs.Facts.{ask-stays}
+use Rattle.asking.proofs.Facts.{by-choice, ask-stays}
 use Rattle.clashing.specs.Entry.{placed, clashIn, judgedBy, clashAnswer}
 use Rattle.clashing.specs.declared.Judged.the-variants as judged
 use Rattle.clashing.proofs.Facts.{clear-table, short-table}
@@ -74,12 +74,8 @@ module _ (b : List ℕ) (t : ℕ) (bytes : (i : ℕ) → getD b i 0 < 256) (clea
   abbrev d : Description
   d = description b (table .layout)
 
-  by-choice : (s : List ℕ) → askOf b t c s ≡ answered d t (chooseIn d t s c)
-  unfolding askOf askIn
-  by-choice s = rw (table .good, table .has)
-
   choice-of : (s : List ℕ) (r : Asked) → askOf b t c s ≡ r → chooseIn d t s c ≡ chosen (tableFirst d t) r
-  choice-of s r e = sym (chosen-is d t (chooseIn d t s c)) ∙ ap (chosen (tableFirst d t)) (sym (by-choice s) ∙ e)
+  choice-of s r e = sym (chosen-is d t (chooseIn d t s c)) ∙ ap (chosen (tableFirst d t)) (sym (by-choice b (table .layout) (table .good) t c s (table .has)) ∙ e)
 
   fit : Formed b (table .layout)
   fit = formed b (table .layout) (table .good)
