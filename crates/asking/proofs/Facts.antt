@@ -1,23 +1,35 @@
--- "An answer, unless "short", stays the same whatever bytes follow", for an asked table.
-use Prim.Native.Nat.{ℕ, _-_}
+-- Demand 2 for an asked table.
+use Prim.Native.Nat.{ℕ, _+_, _-_}
 use mathlib.Core.Bool.{Bool, true, false, cond}
 use mathlib.Core.List.{List, _++_}
-use mathlib.Core.Path.{_≡_, refl, ap, sym, _∙_}
+use mathlib.Core.Path.{_≡_, refl, ap, _∙_}
+use native.Mathlib.Omega.{arith}
+use borrow.Author.Tests.{eq-eqb}
+use lib.Dec.{eqb}
+use lib.ListN.{length}
+use Rattle.lists.proofs.Below.{any-at}
 use Rattle.format.specs.Check.{checkOf}
-use Rattle.format.specs.Description.{Description}
-use Rattle.format.specs.Rules.{hasTable}
+use Rattle.format.specs.Description.{Description, description}
+use Rattle.format.specs.Rules.{tableAt, hasTable}
 use Rattle.format.specs.Tables.{tableFirst, tableEnd}
 use Rattle.format.specs.declared.Checked.{Checked}
 use Rattle.format.specs.declared.Checked.the-variants.{Good, Fault}
+use Rattle.format.specs.declared.Layout.{Layout}
+use Rattle.format.proofs.Tables.{of-table}
+use Rattle.format.proofs.Formation.{Obeyed, formed, obeyed}
+use Rattle.patterns.specs.Relations.{weight}
 use Rattle.choice.specs.declared.Choice.{Choice}
 use Rattle.choice.specs.declared.Choice.the-variants as choice
 use Rattle.choosing.specs.Table.{patternFrom, chooseIn}
+use Rattle.choosing.specs.Records.{patternOf, TakenIn, NoneIn}
+use Rattle.choosing.proofs.Records.{taken-in, none-in, in-taken, in-none}
 use Rattle.choosing_facts.proofs.Stays.{stays}
 use Rattle.asking.specs.Asking.{answered, askIn, asked, askOf}
+use Rattle.asking.specs.Facts.{TakenWith}
 use Rattle.asking.specs.declared.Asked.{Asked}
-use Rattle.asking.specs.declared.Asked.the-variants.{NoTable, Short}
-use Rattle.format.specs.Description.{description}
+use Rattle.asking.specs.declared.Asked.the-variants.{Done, Malformed, NoTable, Short, NoMatch, Ambiguous}
 
+-- an answer, unless short, stays the same whatever bytes follow
 in-stays : (d : Description) (t c : ℕ) (s m : List ℕ) → (askIn d t c s ≡ Short → ⊥) → askIn d t c (s ++ m) ≡ askIn d t c s
 unfolding askIn
 in-stays d t c s m f = go (hasTable d t) refl
@@ -34,3 +46,62 @@ ask-stays b t c s m f = go (checkOf b) refl
     go : (x : Checked) → checkOf b ≡ x → asked b t c (s ++ m) x ≡ asked b t c s x
     go (Good l) e = in-stays (description b l) t c s m (λ q. f (rw e q))
     go (Fault k i) e = refl
+
+-- what an answer says of the table, in a description that obeys its rules
+abbrev Told : Description → ℕ → ℕ → List ℕ → Asked → Type 0
+Told d t c s (Done k w) = TakenWith d t c s k w
+Told d t c s (NoMatch u) = NoneIn d t s c
+Told d t c s (Malformed k i) = Unit {0}
+Told d t c s (NoTable u) = Unit {0}
+Told d t c s Short = Unit {0}
+Told d t c s (Ambiguous u) = Unit {0}
+
+told : (d : Description) → Obeyed d → (t c : ℕ) (s : List ℕ) → Told d t c s (askIn d t c s)
+unfolding askIn patternFrom
+told d o t c s = go (hasTable d t) (chooseIn d t s c) refl
+  where
+    go : (h : Bool) (r : Choice) → chooseIn d t s c ≡ r → Told d t c s (cond h (answered d t r) (NoTable t))
+    go false r e = tt
+    go true choice.Short e = tt
+    go true choice.NoMatch e = none-in d o t s c e
+    go true (choice.Taken j) e = record { taken = taken-in d o t s c j e; weighs = refl }
+    go true choice.Ambiguous e = tt
+
+-- bytes b that are a well-formed description
+module _ (b : List ℕ) (l : Layout) (good : checkOf b ≡ Good l) (t c : ℕ) (s : List ℕ) where
+  says : Told (description b l) t c s (askOf b t c s)
+  unfolding askOf
+  says = rw good (told (description b l) (obeyed b l (formed b l good)) t c s)
+
+  -- the constructor and weight of a done answer
+  pub ask-done : (k w : ℕ) → askOf b t c s ≡ Done k w → TakenWith (description b l) t c s k w
+  ask-done k w e = rw e at says
+
+  -- "no match" means that none matches
+  pub ask-none : askOf b t c s ≡ NoMatch t → NoneIn (description b l) t s c
+  ask-none e = rw e at says
+
+  -- a table that is there answers by its choice
+  pub by-choice : hasTable (description b l) t ≡ true → askOf b t c s ≡ answered (description b l) t (chooseIn (description b l) t s c)
+  unfolding askOf askIn
+  by-choice h = rw (good, h)
+
+  -- and back, unless short: the constructor that is taken is answered, with its weight ..
+  pub done-ask : (k : ℕ) → TakenIn (description b l) t s c k → (askOf b t c s ≡ Short → ⊥)
+      → askOf b t c s ≡ Done k (weight (patternOf (description b l) k))
+  unfolding hasTable patternFrom
+  done-ask k r f =
+      let d = description b l in
+      let o = obeyed b l (formed b l good) in
+      let m = r .is .matching in
+      let j = k - tableFirst d t in
+      let e : tableFirst d t + j ≡ k = omega (arith, of-table d o t k (m .there) (m .table) .0) in
+      let h : hasTable d t ≡ true = any-at (λ i. eqb (tableAt d i) t) (length (d .constructors)) k (m .there) (eq-eqb (tableAt d k) t (m .table)) in
+      let x : chooseIn d t s c ≡ choice.Taken j = in-taken d o t s c j (rw e r) (λ q. f (by-choice h ∙ ap (answered d t) q)) in
+      by-choice h ∙ (ap (answered d t) x ∙ ap (λ y. Done y (weight (patternOf d y))) e)
+
+  -- .. and "no match" where none matches
+  pub none-ask : hasTable (description b l) t ≡ true → NoneIn (description b l) t s c → (askOf b t c s ≡ Short → ⊥) → askOf b t c s ≡ NoMatch t
+  none-ask h r f =
+      let d = description b l in
+      by-choice h ∙ ap (answered d t) (in-none d (obeyed b l (formed b l good)) t s c r (λ q. f (by-choice h ∙ ap (answered d t) q)))

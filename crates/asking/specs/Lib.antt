@@ -1,2 +1,3 @@
 -- Asking one table of any bytes.
 pub mod Asking
+pub mod Facts

@@ -4,12 +4,12 @@ use format::Checked;
 use format::Layout;
 use tables::Table;
 ghost use mathlib.Core.Path.{_≡_};
-ghost use Prim.Native.Nat.{_+_, _<_, _≤_};
+ghost use Prim.Native.Nat.{_+_, _<_};
 ghost use Rattle.format.specs.Layout.{Room};
 ghost use Rattle.format.specs.Check.{Formed};
 ghost use Rattle.format.specs.Description.{description};
 ghost use Rattle.patterns.specs.Relations.{weight};
-ghost use Rattle.choosing.specs.Table.{patternFrom};
+ghost use Rattle.choosing.specs.Table.{patternsOf};
 ghost use Rattle.asking.specs.Asking.{askIn, askOf};
 ghost use Rattle.asking.specs.declared.Asked.{Asked};
 
@@ -25,7 +25,7 @@ pub enum Asked {
 fn taken(desc: &[u8], layout: Layout, table: Table, j: usize) -> Asked
     requires { ⌜ Room (now desc) layout ⌝ }
     requires { ⌜ table .first + j < layout .constructors .count ⌝ }
-    ensures { λ r. ⌜ r ≡ Asked.Done (table .first + j) (weight (patternFrom (description (now (desc .entry)) layout) (table .first) j)) ⌝ }
+    ensures { λ r. ⌜ r ≡ Asked.Done (table .first + j) (weight (patternsOf (now (desc .entry)) layout table j)) ⌝ }
 {
     let constructor = table.first + j;
     let p = sections::pattern_of(desc, layout, constructor);

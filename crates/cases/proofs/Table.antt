@@ -1,6 +1,5 @@
 -- Every worked case that document 01 marks with a star holds, by computation.
 use Prim.Native.Nat.{ℕ, _<_}
-use mathlib.Core.Bool.{true}
 use native.Mathlib.Omega.{arith}
 use lib.Dec.{lit<, lit≤}
 use mathlib.Core.Path.{_≡_, refl}
@@ -41,7 +40,7 @@ use Rattle.text.specs.Text as text
 use Rattle.text.specs.Text.{letters, pieceText, piecesText, constructorText, nameText, textsOf}
 use Rattle.text_decoding.specs.Texting.{decodeTextOf, textAfter}
 use Rattle.cases.specs.Cases as cases-of
-use Rattle.cases.specs.Cases.{Starred, leafZero, leafNone, same, allHold, asks, clashes, chosen, paired, bytes, rows, two, three, halves, chooses, pairs, decodes, reads, cases, holds}
+use Rattle.cases.specs.Cases.{Starred, leafZero, leafNone, same, allHold, asks, clashes, bytes, rows, two, three, halves, chooses, pairs, decodes, reads, cases, holds}
 
 -- what table 0 of S has: one pattern, of no masked bit
 module _ (at : ℕ → Pattern) (e : at 0 ≡ start) where
@@ -60,7 +59,7 @@ module _ (at : ℕ → Pattern) (e : at 0 ≡ start) where
       rw e at (rejects 0 at 1 leafNone sound (lit≤ tt) refl 0 0 (lit< tt) refl (lit< tt) refl (λ k h. absurd (omega arith)))
 
 pub cases-hold : Starred
-unfolding holds cases allHold same asks clashes chosen paired bytes rows two three halves chooses pairs
+unfolding holds cases allHold same asks clashes bytes rows two three halves chooses pairs
     allBelow anyBelow firstBelow tabFrom onesOf
     sectionAt layoutOf namesFrom constructorsFrom operandsFrom piecesFrom textFrom
     fieldsOf namesOf constructorsOf operandsOf piecesOf textOf

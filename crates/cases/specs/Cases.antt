@@ -8,12 +8,8 @@ use lib.IntN.{ℤ, pos, negsuc, natAbs}
 use lib.ListN.{length, getD, replicate}
 use Rattle.format.specs.Example.{S}
 use Rattle.format.specs.declared.Pattern.{Pattern}
-use Rattle.choice.specs.Choosing.{choose}
-use Rattle.choice.specs.Clashing.{clashOf}
-use Rattle.choice.specs.declared.Choice.{Choice}
-use Rattle.choice.specs.declared.Choice.the-variants as choice
-use Rattle.choice.specs.declared.Clash.{Clash}
-use Rattle.choice.specs.declared.Clash.the-variants as clash
+use Rattle.choice.specs.Choosing.{choose, choiceNumber, choiceValues}
+use Rattle.choice.specs.Clashing.{clashOf, clashNumber, clashValues}
 use Rattle.asking.specs.Asking as asking
 use Rattle.asking.specs.Asking.{askOf}
 use Rattle.clashing.specs.Entry as clashing
@@ -46,16 +42,6 @@ asks t s = asking.numberOf (askOf S t 0 s) ∷ asking.valuesOf (askOf S t 0 s)
 unfoldable pub clashes : ℕ → List ℕ
 clashes t = clashing.numberOf (clashAnswer S t) ∷ clashing.valuesOf (clashAnswer S t)
 
-unfoldable pub chosen : Choice → List ℕ
-chosen choice.Short = 2 ∷ []
-chosen choice.NoMatch = 3 ∷ []
-chosen (choice.Taken i) = 0 ∷ i ∷ []
-chosen choice.Ambiguous = 4 ∷ []
-
-unfoldable pub paired : Clash → List ℕ
-paired clash.Clear = 0 ∷ []
-paired (clash.Pair i j) = 1 ∷ i ∷ j ∷ []
-
 -- a pattern of the first two bytes, mask and value
 unfoldable pub bytes : ℕ → ℕ → Pattern
 bytes m v = record { mask = m; value = v; contextmask = 0; contextvalue = 0 }
@@ -74,10 +60,10 @@ unfoldable pub halves : List Pattern
 halves = two ++ (bytes 0x80ff 0x0011 ∷ bytes 0x80ff 0x8011 ∷ [])
 
 unfoldable pub chooses : List Pattern → List ℕ → List ℕ
-chooses ps s = chosen (choose (rows ps) (length ps) s 0)
+chooses ps s = let r = choose (rows ps) (length ps) s 0 in choiceNumber r ∷ choiceValues r
 
 unfoldable pub pairs : List Pattern → List ℕ
-pairs ps = paired (clashOf (rows ps) (length ps))
+pairs ps = let r = clashOf (rows ps) (length ps) in clashNumber r ∷ clashValues r
 
 -- a row's numbers, one below zero as 1 and its magnitude, any other as 0 and itself
 unfoldable pub signedOf : List ℤ → List ℕ
@@ -85,16 +71,16 @@ signedOf [] = []
 signedOf (pos n ∷ zs) = 0 ∷ n ∷ signedOf zs
 signedOf (negsuc n ∷ zs) = 1 ∷ natAbs (negsuc n) ∷ signedOf zs
 
--- decoding S to so many lent rows, 0 before: the answer, and the lent numbers afterwards
+-- decoding S to so many lent rows, whose numbers are 7 before: the answer, and the lent numbers afterwards
 unfoldable pub decodes : ℕ → List ℕ → List ℕ
 decodes n s =
     (decoding.numberOf (decodeOf S 0 s (4 * n)) ∷ decoding.valuesOf (decodeOf S 0 s (4 * n)))
-    ++ signedOf (rowsAfter S 0 s (replicate (4 * n) (pos 0)))
+    ++ signedOf (rowsAfter S 0 s (replicate (4 * n) (pos 7)))
 
--- decoding S to text into so many lent bytes, 0 before: the answer, and the lent bytes afterwards
+-- decoding S to text into so many lent bytes, which are 63 before: the answer, and the lent bytes afterwards
 unfoldable pub reads : ℕ → List ℕ → List ℕ
 reads n s =
-    (texting.numberOf (decodeTextOf S 0 s n) ∷ texting.valuesOf (decodeTextOf S 0 s n)) ++ textAfter S 0 s (replicate n 0)
+    (texting.numberOf (decodeTextOf S 0 s n) ∷ texting.valuesOf (decodeTextOf S 0 s n)) ++ textAfter S 0 s (replicate n 63)
 
 unfoldable pub cases : List Case
 cases =
@@ -111,15 +97,15 @@ cases =
     record { given = clashes 0; said = 0 ∷ 0 ∷ 0 ∷ 0 ∷ 0 ∷ [] } ∷
     record { given = clashes 1; said = 0 ∷ 0 ∷ 0 ∷ 0 ∷ 0 ∷ [] } ∷
     -- "11 is ambiguous"
-    record { given = chooses two (0x11 ∷ []); said = 4 ∷ [] } ∷
-    record { given = pairs two; said = 1 ∷ 0 ∷ 1 ∷ [] } ∷
+    record { given = chooses two (0x11 ∷ []); said = 4 ∷ 0 ∷ [] } ∷
+    record { given = pairs two; said = 0 ∷ 1 ∷ 0 ∷ 1 ∷ [] } ∷
     -- "with FF/11 added, clear"
     record { given = chooses three (0x11 ∷ []); said = 0 ∷ 2 ∷ [] } ∷
-    record { given = pairs three; said = 0 ∷ [] } ∷
+    record { given = pairs three; said = 0 ∷ 0 ∷ [] } ∷
     -- "still a clash, though 11 40 has an answer"
-    record { given = pairs halves; said = 1 ∷ 0 ∷ 1 ∷ [] } ∷
+    record { given = pairs halves; said = 0 ∷ 1 ∷ 0 ∷ 1 ∷ [] } ∷
     record { given = chooses halves (0x11 ∷ 0x40 ∷ []); said = 0 ∷ 2 ∷ [] } ∷
-    record { given = chooses halves (0x11 ∷ []); said = 2 ∷ [] } ∷
+    record { given = chooses halves (0x11 ∷ []); said = 2 ∷ 0 ∷ [] } ∷
     -- "13: rows (0,1,0,1) (1,0,0,3)"
     record {
       given = decodes 2 (0x13 ∷ []);
@@ -139,27 +125,27 @@ cases =
           0 ∷ 1 ∷ 0 ∷ 0 ∷ 0 ∷ 0 ∷ 0 ∷ 5 ∷
           0 ∷ 0 ∷ 0 ∷ 0 ∷ 0 ∷ 1 ∷ 0 ∷ 1 ∷
           0 ∷ 1 ∷ 0 ∷ 1 ∷ 0 ∷ 1 ∷ 1 ∷ 2 ∷
-          0 ∷ 0 ∷ 0 ∷ 0 ∷ 0 ∷ 0 ∷ 0 ∷ 0 ∷ [];
+          0 ∷ 7 ∷ 0 ∷ 7 ∷ 0 ∷ 7 ∷ 0 ∷ 7 ∷ [];
     } ∷
     -- the same with a row less lent
-    record { given = decodes 1 (0x25 ∷ 0xfe ∷ []); said = 9 ∷ 0 ∷ 0 ∷ 0 ∷ 0 ∷ 0 ∷ 0 ∷ 0 ∷ 0 ∷ 0 ∷ 0 ∷ 0 ∷ 0 ∷ [] } ∷
+    record { given = decodes 1 (0x25 ∷ 0xfe ∷ []); said = 9 ∷ 0 ∷ 0 ∷ 0 ∷ 0 ∷ 0 ∷ 7 ∷ 0 ∷ 7 ∷ 0 ∷ 7 ∷ 0 ∷ 7 ∷ [] } ∷
     -- "25: 2, place 1. Empty: 2, place 0. 30: 3, place 0, table 1."
-    record { given = decodes 1 (0x25 ∷ []); said = 2 ∷ 1 ∷ 0 ∷ 0 ∷ 0 ∷ 0 ∷ 0 ∷ 0 ∷ 0 ∷ 0 ∷ 0 ∷ 0 ∷ 0 ∷ [] } ∷
+    record { given = decodes 1 (0x25 ∷ []); said = 2 ∷ 1 ∷ 0 ∷ 0 ∷ 0 ∷ 0 ∷ 7 ∷ 0 ∷ 7 ∷ 0 ∷ 7 ∷ 0 ∷ 7 ∷ [] } ∷
     record { given = decodes 0 []; said = 2 ∷ 0 ∷ 0 ∷ 0 ∷ 0 ∷ [] } ∷
     record { given = decodes 0 (0x30 ∷ []); said = 3 ∷ 0 ∷ 1 ∷ 0 ∷ 0 ∷ [] } ∷
     -- "13: .. "inc r3"", with two bytes more lent, which stay as they were
-    record { given = reads 8 (0x13 ∷ []); said = 0 ∷ 6 ∷ 0 ∷ 0 ∷ 0 ∷ 105 ∷ 110 ∷ 99 ∷ 32 ∷ 114 ∷ 51 ∷ 0 ∷ 0 ∷ [] } ∷
+    record { given = reads 8 (0x13 ∷ []); said = 0 ∷ 6 ∷ 0 ∷ 0 ∷ 0 ∷ 105 ∷ 110 ∷ 99 ∷ 32 ∷ 114 ∷ 51 ∷ 63 ∷ 63 ∷ [] } ∷
     -- "1F: .. "halt""
     record { given = reads 4 (0x1f ∷ []); said = 0 ∷ 4 ∷ 0 ∷ 0 ∷ 0 ∷ 104 ∷ 97 ∷ 108 ∷ 116 ∷ [] } ∷
     -- the same with a byte less lent
-    record { given = reads 3 (0x1f ∷ []); said = 9 ∷ 0 ∷ 0 ∷ 0 ∷ 0 ∷ 0 ∷ 0 ∷ 0 ∷ [] } ∷
+    record { given = reads 3 (0x1f ∷ []); said = 9 ∷ 0 ∷ 0 ∷ 0 ∷ 0 ∷ 63 ∷ 63 ∷ 63 ∷ [] } ∷
     -- "25 FE: .. "add r5, -0x2""
     record { given = reads 12 (0x25 ∷ 0xfe ∷ []); said = 0 ∷ 12 ∷ 0 ∷ 0 ∷ 0 ∷ 97 ∷ 100 ∷ 100 ∷ 32 ∷ 114 ∷ 53 ∷ 44 ∷ 32 ∷ 45 ∷ 48 ∷ 120 ∷ 50 ∷ [] } ∷
     -- "25 80: -0x80; 25 7F: 0x7f"
     record { given = reads 13 (0x25 ∷ 0x80 ∷ []); said = 0 ∷ 13 ∷ 0 ∷ 0 ∷ 0 ∷ 97 ∷ 100 ∷ 100 ∷ 32 ∷ 114 ∷ 53 ∷ 44 ∷ 32 ∷ 45 ∷ 48 ∷ 120 ∷ 56 ∷ 48 ∷ [] } ∷
     record { given = reads 12 (0x25 ∷ 0x7f ∷ []); said = 0 ∷ 12 ∷ 0 ∷ 0 ∷ 0 ∷ 97 ∷ 100 ∷ 100 ∷ 32 ∷ 114 ∷ 53 ∷ 44 ∷ 32 ∷ 48 ∷ 120 ∷ 55 ∷ 102 ∷ [] } ∷
     -- "25: 2, place 1. Empty: 2, place 0. 30: 3, place 0, table 1."
-    record { given = reads 1 (0x25 ∷ []); said = 2 ∷ 1 ∷ 0 ∷ 0 ∷ 0 ∷ 0 ∷ [] } ∷
+    record { given = reads 1 (0x25 ∷ []); said = 2 ∷ 1 ∷ 0 ∷ 0 ∷ 0 ∷ 63 ∷ [] } ∷
     record { given = reads 0 []; said = 2 ∷ 0 ∷ 0 ∷ 0 ∷ 0 ∷ [] } ∷
     record { given = reads 0 (0x30 ∷ []); said = 3 ∷ 0 ∷ 1 ∷ 0 ∷ 0 ∷ [] } ∷
     []

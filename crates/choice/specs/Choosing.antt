@@ -1,7 +1,7 @@
 -- Choosing in a table: `at j` is the pattern of record j, and there are n; s are the bytes present, c is the context.
 use Prim.Native.Nat.{ℕ}
 use mathlib.Core.Bool.{Bool, cond, _&&_, _||_, not}
-use mathlib.Core.List.{List}
+use mathlib.Core.List.{List, [], _∷_}
 use lib.Dec.{eqb, ltb}
 use Rattle.lists.specs.Below.{allBelow, anyBelow, firstBelow}
 use Rattle.patterns.specs.Matching.{matches, cutOff}
@@ -34,3 +34,17 @@ module _ (at : ℕ → Pattern) (n : ℕ) (s : List ℕ) (c : ℕ) where
   -- ambiguous."
   unfoldable pub choose : Choice
   choose = cond (anyBelow n short) Short (cond (anyBelow n matching) (cond alone (Taken taken) Ambiguous) NoMatch)
+
+-- a choice's number in document 01's table ..
+abbrev pub choiceNumber : Choice → ℕ
+choiceNumber (Taken j) = 0
+choiceNumber Short = 2
+choiceNumber NoMatch = 3
+choiceNumber Ambiguous = 4
+
+-- .. and its values, as far as the table alone gives them: the taken record, numbered within the table, or place 0
+abbrev pub choiceValues : Choice → List ℕ
+choiceValues (Taken j) = j ∷ []
+choiceValues Short = 0 ∷ []
+choiceValues NoMatch = 0 ∷ []
+choiceValues Ambiguous = 0 ∷ []

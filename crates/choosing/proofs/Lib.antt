@@ -1,3 +1,4 @@
 -- Laws of the scan.
 pub mod Keeping
 pub mod Settling
+pub mod Records

@@ -1,22 +1,22 @@
 -- What the words settle is what choosing answers.
-use Prim.Native.Nat.{ℕ, _+_, _*_, _<_}
-use mathlib.Core.Bool.{Bool, true, false, not, _&&_}
+use Prim.Native.Nat.{ℕ, _+_, _*_, _<_, _^_}
+use mathlib.Core.Bool.{Bool, true, false, not}
 use mathlib.Core.List.{List}
 use mathlib.Core.Path.{_≡_, refl, sym, ap, fun-ext, _∙_}
 use native.Mathlib.Decide.{decLt}
 use native.Mathlib.Omega.{arith}
 use lib.Dec.{lit<}
-use lib.ListN.{length, getD, List·getD-eq-default}
+use lib.ListN.{getD, List·getD-eq-default}
 use Rattle.lists.specs.Below.{anyBelow}
 use Rattle.lists.proofs.Below.{any-found}
 use Rattle.format.specs.Description.{description, constructorsOf, noConstructor}
 use Rattle.format.specs.declared.Layout.{Layout}
 use Rattle.format.specs.declared.Pattern.{Pattern}
 use Rattle.format.proofs.Lists.{constructor-here, constructors-length}
-use Rattle.patterns.specs.Matching.{matches, agrees, masksMissing, cutOff}
-use Rattle.patterns.specs.Words.{Holds, Small}
+use Rattle.patterns.specs.Matching.{matches, cutOff}
+use Rattle.patterns.specs.Words.{Small, inputOf}
 use Rattle.patterns.specs.declared.Input.{Input}
-use Rattle.patterns.proofs.Bytes.{long-small, quad-small}
+use Rattle.patterns.proofs.Bytes.{Holds, long-small, quad-small, input-holds}
 use Rattle.patterns.proofs.Words.{agrees-is, whole-is, matches-is}
 use Rattle.choice.specs.Choosing.{choose, short, matching}
 use Rattle.choice.specs.declared.Choice.{Choice}
@@ -53,7 +53,11 @@ twice : (a : Bool) → not (not a) ≡ a
 twice true = refl
 twice false = refl
 
-module _ (at : ℕ → Pattern) (n : ℕ) (s : List ℕ) (c : ℕ) (i : Input) (small : (j : ℕ) → Small (at j)) (held : Holds s c i) where
+module _ (at : ℕ → Pattern) (n : ℕ) (s : List ℕ) (c : ℕ) (i : Input) (small : (j : ℕ) → Small (at j)) (bytes : (k : ℕ) → getD s k 0 < 256)
+    (narrow : c < 2 ^ 32) (is : i ≡ inputOf s c) where
+  held : Holds s c i
+  held = rw is (input-holds s c bytes narrow)
+
   short-is : (j : ℕ) → wordShort at i j ≡ short at n s c j
   unfolding short cutOff
   short-is j = rw (agrees-is (at j) s c i (small j) held, whole-is (at j) s c i (small j) held, twice)

@@ -1,3 +1,4 @@
 -- Choosing in a table of a description, and what the scan knows on its way.
 pub mod Table
+pub mod Records
 pub mod Scan

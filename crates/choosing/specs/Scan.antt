@@ -1,9 +1,9 @@
 -- One pass over a table: the record that lies inside the others so far.
-use Prim.Native.Nat.{ℕ, _<_, _+_}
+use Prim.Native.Nat.{ℕ, _<_}
 use mathlib.Core.Bool.{Bool, true, false, cond, _&&_, _||_, not}
 use mathlib.Core.Path.{_≡_}
 use lib.Dec.{eqb}
-use Rattle.lists.specs.Below.{anyBelow}
+use Rattle.lists.specs.Below.{allBelow, anyBelow}
 use Rattle.format.specs.declared.Pattern.{Pattern}
 use Rattle.patterns.specs.Relations.{inside}
 use Rattle.patterns.specs.Words.{wordsAgree, wordsWhole}
@@ -43,14 +43,21 @@ pub record Kept (at : ℕ → Pattern) (hit : ℕ → Bool) (n j : ℕ) (b : Bes
   pub sure : b .found ≡ true → b .doubt ≡ false → Inmost at hit j (b .at)
   pub held : (t : ℕ) → t < j → Inmost at hit n t → (b .found ≡ true) × (b .at ≡ t)
 
+-- what is known of the records that match after a whole pass
+abbrev pub Passed : (ℕ → Pattern) → Input → ℕ → Best → Type 0
+Passed at i n b = Kept at (wordMatch at i) n n b
+
 -- what a whole pass tells
 abbrev pub Tells : (ℕ → Pattern) → Input → ℕ → Scanned → Type 0
 Tells at i n Cut = anyBelow n (wordShort at i) ≡ true
-Tells at i n (All b) = (anyBelow n (wordShort at i) ≡ false) × Kept at (wordMatch at i) n n b
+Tells at i n (All b) = (anyBelow n (wordShort at i) ≡ false) × Passed at i n b
 
 -- record j does not stand in the way of record t: it is t, or does not match, or t lies inside it and not it inside t
 unfoldable pub clears : (ℕ → Pattern) → (ℕ → Bool) → ℕ → ℕ → Bool
 clears at hit t j = eqb j t || not (hit j) || (inside (at t) (at j) && not (inside (at j) (at t)))
+
+abbrev pub clearsAll : (ℕ → Pattern) → Input → ℕ → ℕ → Bool
+clearsAll at i n t = allBelow n (clears at (wordMatch at i) t)
 
 -- what the records that match settle, where none is short
 abbrev pub Settles : (ℕ → Pattern) → (ℕ → Bool) → ℕ → Choice → Type 0
@@ -58,3 +65,6 @@ Settles at hit n Short = ⊥
 Settles at hit n NoMatch = anyBelow n hit ≡ false
 Settles at hit n (Taken t) = Inmost at hit n t
 Settles at hit n Ambiguous = (anyBelow n hit ≡ true) × ((t : ℕ) → Inmost at hit n t → ⊥)
+
+abbrev pub SettlesBy : (ℕ → Pattern) → Input → ℕ → Choice → Type 0
+SettlesBy at i n r = Settles at (wordMatch at i) n r

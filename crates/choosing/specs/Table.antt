@@ -2,15 +2,21 @@
 use Prim.Native.Nat.{ℕ, _+_, _-_}
 use mathlib.Core.List.{List}
 use lib.ListN.{getD}
-use Rattle.format.specs.Description.{Description, noConstructor}
+use Rattle.format.specs.Description.{Description, description, noConstructor}
 use Rattle.format.specs.Tables.{tableFirst, tableEnd}
+use Rattle.format.specs.declared.Layout.{Layout}
 use Rattle.format.specs.declared.Pattern.{Pattern}
+use Rattle.tables.specs.declared.Table.{Table}
 use Rattle.choice.specs.Choosing.{choose}
 use Rattle.choice.specs.declared.Choice.{Choice}
 
 -- the pattern of record j from a first constructor on
 unfoldable pub patternFrom : Description → ℕ → ℕ → Pattern
 patternFrom d first j = getD (d .constructors) (first + j) noConstructor .pattern
+
+-- the patterns of a table's records, in bytes that read as a description
+abbrev pub patternsOf : List ℕ → Layout → Table → ℕ → Pattern
+patternsOf b l table = patternFrom (description b l) (table .first)
 
 -- choosing in table t of d, for the bytes s and the context c
 abbrev pub chooseIn : Description → ℕ → List ℕ → ℕ → Choice

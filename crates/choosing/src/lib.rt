@@ -4,16 +4,14 @@ use format::Layout;
 use format::Pattern;
 use patterns::Input;
 use tables::Table;
-ghost use mathlib.Core.Bool.{true, _&&_};
+ghost use mathlib.Core.Bool.{true};
 ghost use mathlib.Core.Path.{_≡_};
-ghost use Rattle.lists.specs.Below.{allBelow};
 ghost use Prim.Native.Nat.{_+_, _<_, _≤_};
 ghost use Rattle.format.specs.Layout.{Room};
 ghost use Rattle.format.specs.Description.{description};
-ghost use Rattle.patterns.specs.Words.{wordsAgree, wordsWhole};
 ghost use Rattle.choice.specs.Choosing.{choose};
-ghost use Rattle.choosing.specs.Table.{patternFrom};
-ghost use Rattle.choosing.specs.Scan.{met, clears, wordMatch, Tells, Kept, Settles};
+ghost use Rattle.choosing.specs.Table.{patternFrom, patternsOf};
+ghost use Rattle.choosing.specs.Scan.{met, clearsAll, Tells, Passed, SettlesBy};
 
 // What a pass has found so far: whether a record matches, the one that lies inside the others, and whether that is in doubt.
 pub struct Best {
@@ -68,7 +66,7 @@ fn meet(desc: &[u8], layout: Layout, first: usize, best: Best, j: usize, p: Patt
 fn scan(desc: &[u8], layout: Layout, table: Table, input: Input) -> Scanned
     requires { ⌜ Room (now desc) layout ⌝ }
     requires { ⌜ table .first + table .count ≤ layout .constructors .count ⌝ }
-    ensures { λ r. ⌜ Tells (patternFrom (description (now (desc .entry)) layout) (table .first)) input (table .count) r ⌝ }
+    ensures { λ r. ⌜ Tells (patternsOf (now (desc .entry)) layout table) input (table .count) r ⌝ }
 {
     let mut best = Best {
         found: false,
@@ -95,7 +93,7 @@ fn clears_all(desc: &[u8], layout: Layout, table: Table, input: Input, t: usize)
     requires { ⌜ Room (now desc) layout ⌝ }
     requires { ⌜ table .first + table .count ≤ layout .constructors .count ⌝ }
     requires { ⌜ t < table .count ⌝ }
-    ensures { λ r. ⌜ r ≡ allBelow (table .count) (clears (patternFrom (description (now (desc .entry)) layout) (table .first)) (wordMatch (patternFrom (description (now (desc .entry)) layout) (table .first)) input) t) ⌝ }
+    ensures { λ r. ⌜ r ≡ clearsAll (patternsOf (now (desc .entry)) layout table) input (table .count) t ⌝ }
 {
     let q = row(desc, layout, table.first, t);
     let mut j = 0;
@@ -116,8 +114,8 @@ fn clears_all(desc: &[u8], layout: Layout, table: Table, input: Input, t: usize)
 fn settle(desc: &[u8], layout: Layout, table: Table, input: Input, best: Best) -> Choice
     requires { ⌜ Room (now desc) layout ⌝ }
     requires { ⌜ table .first + table .count ≤ layout .constructors .count ⌝ }
-    requires { ⌜ Kept (patternFrom (description (now desc) layout) (table .first)) (wordMatch (patternFrom (description (now desc) layout) (table .first)) input) (table .count) (table .count) best ⌝ }
-    ensures { λ r. ⌜ Settles (patternFrom (description (now (desc .entry)) layout) (table .first)) (wordMatch (patternFrom (description (now (desc .entry)) layout) (table .first)) input) (table .count) r ⌝ }
+    requires { ⌜ Passed (patternsOf (now desc) layout table) input (table .count) best ⌝ }
+    ensures { λ r. ⌜ SettlesBy (patternsOf (now (desc .entry)) layout table) input (table .count) r ⌝ }
 {
     if best.found {
         if best.doubt {
@@ -135,7 +133,7 @@ fn settle(desc: &[u8], layout: Layout, table: Table, input: Input, best: Best) -
 pub fn choose_in(desc: &[u8], layout: Layout, table: Table, code: &[u8], context: u32) -> Choice
     requires { ⌜ Room (now desc) layout ⌝ }
     requires { ⌜ table .first + table .count ≤ layout .constructors .count ⌝ }
-    ensures { λ r. ⌜ r ≡ choose (patternFrom (description (now (desc .entry)) layout) (table .first)) (table .count) (now (code .entry)) context ⌝ }
+    ensures { λ r. ⌜ r ≡ choose (patternsOf (now (desc .entry)) layout table) (table .count) (now (code .entry)) context ⌝ }
 {
     let input = patterns::input_of(code, context);
     let scanned = scan(desc, layout, table, input);

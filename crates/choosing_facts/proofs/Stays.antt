@@ -89,7 +89,7 @@ module _ (at : ℕ → Pattern) (n : ℕ) (s m : List ℕ) (c : ℕ) where
     unfolding short matching
     alike i h = keeps-matching s m (at i) c (none-at (short at n s c) n p i h)
 
-  -- "An answer, unless short, stays the same whatever bytes follow."
+  -- Demand 2: an answer, unless short, stays the same whatever bytes follow.
   pub stays : (choose at n s c ≡ Short → ⊥) → choose at n (s ++ m) c ≡ choose at n s c
   stays f = go (answer at n s c)
     where

@@ -21,23 +21,23 @@ use Rattle.choosing_facts.proofs.None.{none-at, none-of}
 
 module _ (at : ℕ → Pattern) (n : ℕ) (s : List ℕ) (c : ℕ) where
   -- record i lies inside all other matching ones
-  abbrev Below : ℕ → Type 0
+  abbrev pub Below : ℕ → Type 0
   Below i = (j : ℕ) → j < n → (j ≡ i → ⊥) → matching at n s c j ≡ true → inside (at i) (at j) ≡ true
 
   abbrev isBelow : ℕ → ℕ → Bool
   isBelow i j = eqb i j || not (matching at n s c j) || inside (at i) (at j)
 
   -- innermost, taken apart and put together
-  inner-matches : (i : ℕ) → innermost at n s c i ≡ true → matching at n s c i ≡ true
+  pub inner-matches : (i : ℕ) → innermost at n s c i ≡ true → matching at n s c i ≡ true
   unfolding innermost
   inner-matches i e = and-left (matching at n s c i) (allBelow n (isBelow i)) e
 
-  inner-below : (i : ℕ) → innermost at n s c i ≡ true → Below i
+  pub inner-below : (i : ℕ) → innermost at n s c i ≡ true → Below i
   unfolding innermost
   inner-below i e j h d m =
       rw (ne-eqb i j (λ q. d (sym q)), m) at (all-at (isBelow i) n j (and-right (matching at n s c i) (allBelow n (isBelow i)) e) h)
 
-  inner : (i : ℕ) → matching at n s c i ≡ true → Below i → innermost at n s c i ≡ true
+  pub inner : (i : ℕ) → matching at n s c i ≡ true → Below i → innermost at n s c i ≡ true
   unfolding innermost
   inner i m f =
       and-both (matching at n s c i) (allBelow n (isBelow i)) m
@@ -49,7 +49,7 @@ module _ (at : ℕ → Pattern) (n : ℕ) (s : List ℕ) (c : ℕ) where
       go j h false p false q = refl
 
   -- the one that is alone innermost lies strictly below the others: one that also lay inside it would be innermost too
-  lone-strict : (t : ℕ) → t < n → innermost at n s c t ≡ true → ((j : ℕ) → j < n → innermost at n s c j ≡ true → j ≡ t)
+  pub lone-strict : (t : ℕ) → t < n → innermost at n s c t ≡ true → ((j : ℕ) → j < n → innermost at n s c j ≡ true → j ≡ t)
       → Strict at n s c t
   lone-strict t l e only =
       record {

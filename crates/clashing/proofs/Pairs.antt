@@ -5,7 +5,7 @@ use mathlib.Core.Path.{_≡_, refl, sym, _∙_}
 use native.Mathlib.Omega.{arith}
 use borrow.Author.Tests.{lt-ltb, le-ltb, le-leb, lt-leb, eq-eqb, eqb-true}
 use lib.Dec.{eqb, ltb, leb}
-use Rattle.lists.specs.Below.{allBelow, anyBelow, firstBelow}
+use Rattle.lists.specs.Below.{allBelow, firstBelow}
 use Rattle.lists.proofs.Bools.{and4, and-both, or-yes}
 use Rattle.lists.proofs.Below.{all-of, all-more, first-stop, first-done}
 use Rattle.bits.specs.Bits.{bit, isSet}
@@ -14,7 +14,7 @@ use Rattle.format.specs.Rules.{hasTable}
 use Rattle.format.specs.Tables.{tableFirst, tableEnd}
 use Rattle.format.specs.declared.Pattern.{Pattern}
 use Rattle.patterns.specs.Relations.{inside, meetBits, overlap, overlapOf, equal}
-use Rattle.choice.specs.Clashing.{crossing, third, clashing, partner, firstClash, clashOf}
+use Rattle.choice.specs.Clashing.{another, crossing, third, clashing, partner, firstClash, clashOf}
 use Rattle.choice.specs.declared.Clash.{Clash}
 use Rattle.choice.specs.declared.Clash.the-variants.{Clear, Pair}
 use Rattle.choosing.specs.Table.{patternFrom}
@@ -61,7 +61,7 @@ module _ (at : ℕ → Pattern) (n i j : ℕ) (a b : Pattern) (e : a ≡ at i) (
       go true false false t y = absurd (false≢true y)
 
   pub clash-crossing : overlap a b ≡ true → equal a b ≡ false → (inside a b || inside b a) ≡ false → (t : Bool)
-      → t ≡ anyBelow n (λ t. not (eqb t i) && not (eqb t j) && equal (at t) (overlapOf a b)) → not t ≡ clashing at n i j
+      → t ≡ another at n i j (overlapOf a b) → not t ≡ clashing at n i j
   unfolding clashing crossing third
   clash-crossing o h x t g =
       let y = neither (inside a b) (inside b a) x in

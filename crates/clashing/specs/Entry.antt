@@ -1,4 +1,4 @@
--- "The clash check refuses 1, then 12", and answers the pair, by their records of section 3, or clear.
+-- The clash check refuses 1, then 12 ("Order: 1, 12"), and answers the pair, by their records of section 3, or clear.
 use Prim.Native.Nat.{ℕ, _+_, _-_}
 use mathlib.Core.Bool.{cond}
 use mathlib.Core.List.{List, [], _∷_}
@@ -32,7 +32,7 @@ judgedBy b t (Fault k i) = Malformed k i
 unfoldable pub clashAnswer : List ℕ → ℕ → Judged
 clashAnswer b t = judgedBy b t (checkOf b)
 
--- the answer's number in document 01's table: "a clash .. is an answer, not a refusal" ..
+-- the answer's number in document 01's table: "A clash, a rejected tree and a sweep's end are answers, not refusals" ..
 abbrev pub numberOf : Judged → ℕ
 numberOf Clear = 0
 numberOf (Pair i j) = 0

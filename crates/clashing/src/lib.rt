@@ -4,17 +4,15 @@ use format::Checked;
 use format::Layout;
 use format::Pattern;
 use tables::Table;
-ghost use mathlib.Core.Bool.{true, _&&_, not};
+ghost use mathlib.Core.Bool.{true};
 ghost use mathlib.Core.Path.{_≡_};
 ghost use Prim.Native.Nat.{_+_, _<_, _≤_};
-ghost use lib.Dec.{eqb};
-ghost use Rattle.lists.specs.Below.{anyBelow};
 ghost use Rattle.format.specs.Layout.{Room};
 ghost use Rattle.format.specs.Check.{Formed};
 ghost use Rattle.format.specs.Description.{description};
-ghost use Rattle.patterns.specs.Relations.{equal, overlap};
-ghost use Rattle.choice.specs.Clashing.{clashing, partner, clashOf};
-ghost use Rattle.choosing.specs.Table.{patternFrom};
+ghost use Rattle.patterns.specs.Relations.{overlap};
+ghost use Rattle.choice.specs.Clashing.{another, clashing, partner, clashOf};
+ghost use Rattle.choosing.specs.Table.{patternsOf};
 ghost use Rattle.clashing.specs.Entry.{clashIn, clashAnswer};
 
 pub enum Judged {
@@ -28,7 +26,7 @@ pub enum Judged {
 fn has_third(desc: &[u8], layout: Layout, table: Table, i: usize, j: usize, p: Pattern) -> bool
     requires { ⌜ Room (now desc) layout ⌝ }
     requires { ⌜ table .first + table .count ≤ layout .constructors .count ⌝ }
-    ensures { λ r. ⌜ r ≡ anyBelow (table .count) (λ t. not (eqb t i) && not (eqb t j) && equal (patternFrom (description (now (desc .entry)) layout) (table .first) t) p) ⌝ }
+    ensures { λ r. ⌜ r ≡ another (patternsOf (now (desc .entry)) layout table) (table .count) i j p ⌝ }
 {
     let mut t = 0;
     while t < table.count {
@@ -53,10 +51,10 @@ fn crosses(
 ) -> bool
     requires { ⌜ Room (now desc) layout ⌝ }
     requires { ⌜ table .first + table .count ≤ layout .constructors .count ⌝ }
-    requires { ⌜ a ≡ patternFrom (description (now desc) layout) (table .first) i ⌝ }
-    requires { ⌜ b ≡ patternFrom (description (now desc) layout) (table .first) j ⌝ }
+    requires { ⌜ a ≡ patternsOf (now desc) layout table i ⌝ }
+    requires { ⌜ b ≡ patternsOf (now desc) layout table j ⌝ }
     requires { ⌜ overlap a b ≡ true ⌝ }
-    ensures { λ r. ⌜ r ≡ clashing (patternFrom (description (now (desc .entry)) layout) (table .first)) (table .count) i j ⌝ }
+    ensures { λ r. ⌜ r ≡ clashing (patternsOf (now (desc .entry)) layout table) (table .count) i j ⌝ }
 {
     if patterns::same(a, b) {
         return true;
@@ -81,9 +79,9 @@ fn clashes(
 ) -> bool
     requires { ⌜ Room (now desc) layout ⌝ }
     requires { ⌜ table .first + table .count ≤ layout .constructors .count ⌝ }
-    requires { ⌜ a ≡ patternFrom (description (now desc) layout) (table .first) i ⌝ }
-    requires { ⌜ b ≡ patternFrom (description (now desc) layout) (table .first) j ⌝ }
-    ensures { λ r. ⌜ r ≡ clashing (patternFrom (description (now (desc .entry)) layout) (table .first)) (table .count) i j ⌝ }
+    requires { ⌜ a ≡ patternsOf (now desc) layout table i ⌝ }
+    requires { ⌜ b ≡ patternsOf (now desc) layout table j ⌝ }
+    ensures { λ r. ⌜ r ≡ clashing (patternsOf (now (desc .entry)) layout table) (table .count) i j ⌝ }
 {
     if patterns::overlaps(a, b) {
         return crosses(desc, layout, table, i, j, a, b);
@@ -96,7 +94,7 @@ fn partner_of(desc: &[u8], layout: Layout, table: Table, i: usize) -> usize
     requires { ⌜ Room (now desc) layout ⌝ }
     requires { ⌜ table .first + table .count ≤ layout .constructors .count ⌝ }
     requires { ⌜ i < table .count ⌝ }
-    ensures { λ r. ⌜ r ≡ partner (patternFrom (description (now (desc .entry)) layout) (table .first)) (table .count) i ⌝ }
+    ensures { λ r. ⌜ r ≡ partner (patternsOf (now (desc .entry)) layout table) (table .count) i ⌝ }
 {
     let a = choosing::row(desc, layout, table.first, i);
     let mut j = i + 1;
@@ -113,7 +111,7 @@ fn partner_of(desc: &[u8], layout: Layout, table: Table, i: usize) -> usize
 pub fn first_clash(desc: &[u8], layout: Layout, table: Table) -> Clash
     requires { ⌜ Room (now desc) layout ⌝ }
     requires { ⌜ table .first + table .count ≤ layout .constructors .count ⌝ }
-    ensures { λ r. ⌜ r ≡ clashOf (patternFrom (description (now (desc .entry)) layout) (table .first)) (table .count) ⌝ }
+    ensures { λ r. ⌜ r ≡ clashOf (patternsOf (now (desc .entry)) layout table) (table .count) ⌝ }
 {
     let mut i = 0;
     while i < table.count {

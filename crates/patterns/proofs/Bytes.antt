@@ -1,23 +1,24 @@
 -- The first eight bytes as a number, and the masks of those that are here and missing.
-use Prim.Native.Nat.{ℕ, _+_, _-_, _*_, _/_, _%_, _<_, _≤_, _^_}
-use mathlib.Core.Bool.{Bool, true, false, cond, not, _&&_, Bool·beq}
+use Prim.Native.Nat.{ℕ, _+_, _-_, _*_, _/_, _%_, _<_, _≤_, _^_, min}
+use mathlib.Core.Bool.{Bool, true, false, not, _&&_, Bool·beq}
 use mathlib.Core.List.{List}
 use mathlib.Core.Path.{_≡_, refl, sym, ap, _∙_}
 use native.Mathlib.Decide.{decLt}
 use native.Mathlib.Nat.{one-mul}
 use native.Mathlib.Omega.{arith}
-use borrow.Author.Tests.{lt-ltb}
-use lib.Dec.{ltb, eqb, lit<}
+use borrow.Author.Tests.{lt-ltb, ltb-true}
+use lib.Dec.{ltb, lit<}
 use lib.ListN.{length, getD}
 use lib.Pow.{shl-exact, pow-mono, pow-pos}
 use Rattle.lists.specs.Below.{allBelow}
 use Rattle.lists.proofs.Below.{all-at}
-use Rattle.lists.proofs.Bools.{and-left, and-right}
+use Rattle.lists.proofs.Bools.{and-left, and-right, same}
 use Rattle.bits.specs.Bits.{bit, isSet}
 use Rattle.bits.proofs.Digits.{low-bit, high-bit}
 use Rattle.format.specs.Bytes.{byteAt, wordAt, longAt, quadAt}
-use Rattle.patterns.specs.Matching.{byteBit}
-use Rattle.patterns.specs.Words.{Holds}
+use Rattle.patterns.specs.Matching.{byteBit, present}
+use Rattle.patterns.specs.Words.{inputOf}
+use Rattle.patterns.specs.declared.Input.{Input}
 
 -- bytes that are the same give the same number
 pub quad-same : (a b : List ℕ) → ((k : ℕ) → k < 8 → getD a k 0 ≡ getD b k 0) → quadAt a 0 ≡ quadAt b 0
@@ -112,32 +113,49 @@ module _ (n k : ℕ) (h : n < 9) (l : k < 64) where
 pub shifted : (n : ℕ) → n < 8 → (1 * 2 ^ (8 * n)) % 2 ^ 64 ≡ 2 ^ (8 * n)
 shifted n h = shl-exact {a = 1} 1 (8 * n) 64 (lit< tt) (omega arith) ∙ one-mul (2 ^ (8 * n))
 
-module _ (s : List ℕ) (c : ℕ) (bytes : (i : ℕ) → getD s i 0 < 256) (narrow : c < 2 ^ 32) where
-  -- eight bytes or more ..
-  pub whole-input : 8 ≤ length s → Holds s c (record { word = quadAt s 0; here = 2 ^ 64 - 1; missing = 0; context = c })
-  whole-input h =
-      record {
-        bits = λ k l _. quad-bit s bytes k l;
-        here = λ k l. here-bit 8 k (lit< tt) l ∙ there k l;
-        missing = λ k l. missing-bit 8 k (lit< tt) l ∙ ap not (there k l);
-        context = refl;
-        fits = record { word = quad-small s bytes 0; here = lit< tt; missing = lit< tt; context = narrow };
-      }
-    where
-      there : (k : ℕ) → k < 64 → ltb (k / 8) 8 ≡ ltb (k / 8) (length s)
-      there k l = lt-ltb (k / 8) 8 (omega arith) ∙ sym (lt-ltb (k / 8) (length s) (omega arith))
+pub record SmallInput (i : Input) : Type 0 where
+  pub word : i .word < 2 ^ 64
+  pub here : i .here < 2 ^ 64
+  pub missing : i .missing < 2 ^ 64
+  pub context : i .context < 2 ^ 32
 
-  -- .. and fewer
+-- bit by bit, these words are the first eight bytes of s, as far as they are there, and the context c
+pub record Holds (s : List ℕ) (c : ℕ) (i : Input) : Type 0 where
+  pub bits : (k : ℕ) → k < 64 → present s k ≡ true → bit (i .word) k ≡ byteBit s k
+  pub here : (k : ℕ) → k < 64 → isSet (i .here) k ≡ present s k
+  pub missing : (k : ℕ) → k < 64 → isSet (i .missing) k ≡ not (present s k)
+  pub context : i .context ≡ c
+  pub fits : SmallInput i
+
+module _ (s : List ℕ) (c : ℕ) where
+  -- the words of eight bytes or more ..
+  pub whole-input : 8 ≤ length s → record { word = quadAt s 0; here = 2 ^ 64 - 1; missing = 0; context = c } ≡ inputOf s c
+  unfolding inputOf
+  whole-input h = let e : min 8 (length s) ≡ 8 = omega arith in rw e
+
+  -- .. and of fewer
   pub few-input : length s < 8
-      → Holds s c (record { word = quadAt s 0; here = 2 ^ (8 * length s) - 1; missing = 2 ^ 64 - 1 - (2 ^ (8 * length s) - 1); context = c })
-  few-input h =
+      → record { word = quadAt s 0; here = 2 ^ (8 * length s) - 1; missing = 2 ^ 64 - 1 - (2 ^ (8 * length s) - 1); context = c } ≡ inputOf s c
+  unfolding inputOf
+  few-input h = let e : min 8 (length s) ≡ length s = omega arith in rw e
+
+  pub input-holds : ((i : ℕ) → getD s i 0 < 256) → c < 2 ^ 32 → Holds s c (inputOf s c)
+  unfolding inputOf
+  input-holds bytes narrow =
+      let n = min 8 (length s) in
       record {
         bits = λ k l _. quad-bit s bytes k l;
-        here = λ k l. here-bit (length s) k (omega arith) l;
-        missing = λ k l. missing-bit (length s) k (omega arith) l;
+        here = λ k l. here-bit n k (omega arith) l ∙ there k l;
+        missing = λ k l. missing-bit n k (omega arith) l ∙ ap not (there k l);
         context = refl;
         fits =
-            (let m : 2 ^ (8 * length s) ≤ 2 ^ 64 = pow-mono {i = 8 * length s} {j = 64} (omega arith) in
-            let p : 0 < 2 ^ (8 * length s) = pow-pos (8 * length s) in
+            (let m : 2 ^ (8 * n) ≤ 2 ^ 64 = pow-mono {i = 8 * n} {j = 64} (omega arith) in
+            let p : 0 < 2 ^ (8 * n) = pow-pos (8 * n) in
             record { word = quad-small s bytes 0; here = omega arith; missing = omega arith; context = narrow });
       }
+    where
+      there : (k : ℕ) → k < 64 → ltb (k / 8) (min 8 (length s)) ≡ ltb (k / 8) (length s)
+      there k l =
+          let n = min 8 (length s) in
+          same (ltb (k / 8) n) (ltb (k / 8) (length s)) (λ e. lt-ltb (k / 8) (length s) (omega (arith, ltb-true (k / 8) n e)))
+          (λ e. lt-ltb (k / 8) n (omega (arith, ltb-true (k / 8) (length s) e)))

@@ -2,21 +2,21 @@
 use Prim.Native.Nat.{ℕ, _+_, _<_, _^_}
 use mathlib.Core.Bool.{Bool, true, false, not, _&&_, _||_}
 use mathlib.Core.List.{List}
-use mathlib.Core.Path.{_≡_, refl, sym, ap, _∙_}
-use native.Mathlib.Omega.{arith}
-use lib.Bits.{bitAnd, bitOr, bitXor, and-lt, xor-lt}
-use lib.Count.{ones, ones-le}
+use mathlib.Core.Path.{_≡_, refl, sym, _∙_}
+use lib.Bits.{bitAnd, bitOr, bitXor, and-lt}
+use lib.Count.{ones}
 use lib.Dec.{eqb}
-use Rattle.lists.specs.Below.{allBelow, anyBelow}
+use Rattle.lists.specs.Below.{allBelow}
 use Rattle.lists.proofs.Below.{all-same, all-not, all-and}
 use Rattle.lists.proofs.Bools.{and-no, and-yes, and-swap}
-use Rattle.bits.specs.Bits.{bit, isSet, onesOf}
+use Rattle.bits.specs.Bits.{bit, isSet}
 use Rattle.bits.proofs.Words.{agrees-law, inside-law, apart-law, ones-law, set-and}
 use Rattle.format.specs.declared.Pattern.{Pattern}
-use Rattle.patterns.specs.Matching.{byteBit, present, contextAgrees, matches, agrees, masksMissing, cutOff}
+use Rattle.patterns.specs.Matching.{byteBit, present, contextAgrees, matches, agrees, masksMissing}
 use Rattle.patterns.specs.Relations.{inside, insideBits, overlap, meetBits, weight}
-use Rattle.patterns.specs.Words.{Holds, Small, wordsAgree, wordsWhole}
+use Rattle.patterns.specs.Words.{Small, wordsAgree, wordsWhole}
 use Rattle.patterns.specs.declared.Input.{Input}
+use Rattle.patterns.proofs.Bytes.{Holds}
 
 pub inside-is : (a b : Pattern) → Small a → Small b
     → (eqb (bitAnd (bitOr (bitXor (a .mask) (b .mask)) (bitXor (a .value) (b .value))) (b .mask)) 0

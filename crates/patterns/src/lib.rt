@@ -1,12 +1,11 @@
 // Patterns on machine words: no loop over bits.
 use format::Pattern;
-ghost use mathlib.Core.Bool.{true};
 ghost use mathlib.Core.Path.{_≡_};
 ghost use Prim.Native.Nat.{_-_, _<_, _*_, _^_};
 ghost use lib.ListN.{length};
 ghost use Rattle.format.specs.Bytes.{quadAt};
 ghost use Rattle.patterns.specs.Relations.{inside, overlap, overlapOf, equal, weight};
-ghost use Rattle.patterns.specs.Words.{Holds, wordsAgree, wordsWhole};
+ghost use Rattle.patterns.specs.Words.{inputOf, wordsAgree, wordsWhole};
 
 const ALL: u64 = 18446744073709551615;
 
@@ -34,7 +33,7 @@ fn padded(code: &[u8]) -> u64
 }
 
 pub fn input_of(code: &[u8], context: u32) -> Input
-    ensures { λ r. ⌜ Holds (now (code .entry)) context r ⌝ }
+    ensures { λ r. ⌜ r ≡ inputOf (now (code .entry)) context ⌝ }
 {
     let n = code.len();
     if 8 <= n {

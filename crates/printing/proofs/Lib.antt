@@ -3,4 +3,3 @@ pub mod Writing
 pub mod Numerals
 pub mod Ending
 pub mod Signs
-mod Examples

@@ -1,4 +1,4 @@
--- The check of a tree, for any bytes: "Refusals: 1, 12, 11", then demand 3's answer.
+-- The check of a tree, for any bytes: "Order: 1, 12, 11", then demand 3's answer.
 use Prim.Native.Nat.{ℕ, _-_}
 use mathlib.Core.Bool.{Bool, true, false}
 use mathlib.Core.List.{List, [], _∷_}
@@ -28,16 +28,21 @@ abbrev pub ByForm : Description → ℕ → ℕ → List ℕ → Form → Answer
 ByForm d first n tree (form.Bad k) r = r ≡ BadTree k
 ByForm d first n tree form.Good r = (v : Verdict) × (r ≡ said v) × Judged first (patternFrom d first) n tree v
 
+abbrev pub ForRecords : Description → ℕ → ℕ → List ℕ → Answer → Type 0
+ForRecords d first n tree r = ByForm d first n tree (formOf first n tree) r
+
 -- 12 where the description has no such table
 abbrev pub ByTable : Description → ℕ → List ℕ → Bool → Answer → Type 0
 ByTable d t tree false r = r ≡ NoTable t
-ByTable d t tree true r =
-    ByForm d (tableFirst d t) (tableEnd d t - tableFirst d t) tree (formOf (tableFirst d t) (tableEnd d t - tableFirst d t) tree) r
+ByTable d t tree true r = ForRecords d (tableFirst d t) (tableEnd d t - tableFirst d t) tree r
+
+abbrev pub ForTable : Description → ℕ → List ℕ → Answer → Type 0
+ForTable d t tree r = ByTable d t tree (hasTable d t) r
 
 -- 1 where the bytes are no description
 abbrev pub ByCheck : List ℕ → ℕ → List ℕ → Checked → Answer → Type 0
 ByCheck b t tree (checked.Fault k i) r = r ≡ Malformed k i
-ByCheck b t tree (checked.Good l) r = ByTable (description b l) t tree (hasTable (description b l) t) r
+ByCheck b t tree (checked.Good l) r = ForTable (description b l) t tree r
 
 -- bytes b as the description, table t, any bytes as the tree
 abbrev pub Answers : List ℕ → ℕ → List ℕ → Answer → Type 0

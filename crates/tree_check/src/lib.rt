@@ -5,23 +5,20 @@ use format::Pattern;
 use tables::Table;
 use trees::Form;
 use trees::Verdict;
-ghost use mathlib.Core.Logic.{_⊎_};
 ghost use mathlib.Core.Path.{_≡_};
 ghost use Prim.Native.Nat.{_+_, _-_, _<_, _≤_};
 ghost use Rattle.format.specs.Layout.{Room};
 ghost use Rattle.format.specs.Check.{Formed};
 ghost use Rattle.format.specs.Description.{description};
-ghost use Rattle.choosing.specs.Table.{patternFrom};
-ghost use Rattle.trees.specs.Nodes.{nowhere, countOf, kindAt, placeAt};
+ghost use Rattle.choosing.specs.Table.{patternsOf};
+ghost use Rattle.trees.specs.Nodes.{nowhere, countOf, kindAt};
 ghost use Rattle.trees.specs.Form.{formOf};
 ghost use Rattle.trees.specs.Judged.{Judged};
 ghost use Rattle.trees.specs.declared.Form.the-variants.{Good};
-ghost use Rattle.tree_rule.proofs.Rule.{Says};
 ghost use Rattle.tree_leaves.specs.Path.{pathOf};
-ghost use Rattle.tree_rule.specs.Rule.{exampleWord, exampleContext};
+ghost use Rattle.tree_rule.specs.Rule.{Says, exampleWord, exampleContext};
 ghost use Rattle.tree_check.specs.Search.{Leaves, Sought};
-ghost use Rattle.tree_check.specs.Entry.{ByForm, ByTable, Answers};
-ghost use Rattle.format.specs.Rules.{hasTable};
+ghost use Rattle.tree_check.specs.Entry.{ForRecords, ForTable, Answers};
 
 // What the check of any bytes says: accepted, or the first wrong leaf with eight bytes, as a little-endian number, and a context
 // that prove it wrong; or what document 01 refuses.
@@ -74,7 +71,7 @@ fn named_by(desc: &[u8], layout: Layout, table: Table, v: usize) -> Pattern
     requires { ⌜ Room (now desc) layout ⌝ }
     requires { ⌜ table .first + table .count ≤ layout .constructors .count ⌝ }
     requires { ⌜ Says (table .first) (table .count) v ⌝ }
-    ensures { λ r. ⌜ ((v ≡ nowhere → ⊥) → r ≡ patternFrom (description (now (desc .entry)) layout) (table .first) (v - table .first)) ⌝ }
+    ensures { λ r. ⌜ ((v ≡ nowhere → ⊥) → r ≡ patternsOf (now (desc .entry)) layout table (v - table .first)) ⌝ }
 {
     if v == trees::NOWHERE {
         return Pattern {
@@ -96,7 +93,7 @@ pub enum Found {
 // Leaf after leaf, each against the table's patterns, left at the first wrong one.
 fn first_wrong(desc: &[u8], layout: Layout, table: Table, tree: &[u8], count: usize) -> Found
     requires { ⌜ Leaves (now desc) layout table (now tree) count ⌝ }
-    ensures { λ r. ⌜ Sought (patternFrom (description (now (desc .entry)) layout) (table .first)) table (now (tree .entry)) r ⌝ }
+    ensures { λ r. ⌜ Sought (patternsOf (now (desc .entry)) layout table) table (now (tree .entry)) r ⌝ }
 {
     let mut found = Found::Nothing;
     let mut next = 0;
@@ -150,7 +147,7 @@ fn context_against(own: bool, p: Pattern, q: Pattern) -> u32
 fn judge(desc: &[u8], layout: Layout, table: Table, tree: &[u8], count: usize) -> Verdict
     requires { ⌜ Formed (now desc) layout ⌝ }
     requires { ⌜ Leaves (now desc) layout table (now tree) count ⌝ }
-    ensures { λ r. ⌜ Judged (table .first) (patternFrom (description (now (desc .entry)) layout) (table .first)) (table .count) (now (tree .entry)) r ⌝ }
+    ensures { λ r. ⌜ Judged (table .first) (patternsOf (now (desc .entry)) layout table) (table .count) (now (tree .entry)) r ⌝ }
 {
     let found = first_wrong(desc, layout, table, tree, count);
     match found {
@@ -173,7 +170,7 @@ fn judge(desc: &[u8], layout: Layout, table: Table, tree: &[u8], count: usize) -
 fn tree_for(desc: &[u8], layout: Layout, table: Table, tree: &[u8]) -> Answer
     requires { ⌜ Formed (now desc) layout ⌝ }
     requires { ⌜ table .first + table .count ≤ layout .constructors .count ⌝ }
-    ensures { λ r. ⌜ ByForm (description (now (desc .entry)) layout) (table .first) (table .count) (now (tree .entry)) (formOf (table .first) (table .count) (now (tree .entry))) r ⌝ }
+    ensures { λ r. ⌜ ForRecords (description (now (desc .entry)) layout) (table .first) (table .count) (now (tree .entry)) r ⌝ }
 {
     let form = tree_form::form(tree, table.first, table.count);
     match form {
@@ -199,7 +196,7 @@ fn tree_for(desc: &[u8], layout: Layout, table: Table, tree: &[u8]) -> Answer
 
 fn tree_in(desc: &[u8], layout: Layout, t: u32, tree: &[u8]) -> Answer
     requires { ⌜ Formed (now desc) layout ⌝ }
-    ensures { λ r. ⌜ ByTable (description (now (desc .entry)) layout) t (now (tree .entry)) (hasTable (description (now (desc .entry)) layout) t) r ⌝ }
+    ensures { λ r. ⌜ ForTable (description (now (desc .entry)) layout) t (now (tree .entry)) r ⌝ }
 {
     let table = tables::table_of(desc, layout, t);
     if table.count == 0 {

@@ -1,32 +1,27 @@
 -- From the rule on patterns to demand 3: what no record shows wrong is right for every input, and what one shows wrong has its
 -- example.
 use Prim.Native.Nat.{ℕ, zero, suc, _+_, _^_, _<_, _≤_}
-use mathlib.Core.Bool.{Bool, true, false, not, _&&_, false≢true}
+use mathlib.Core.Bool.{true, false, false≢true}
 use mathlib.Core.List.{List}
-use mathlib.Core.Logic.{_⊎_}
-use mathlib.Core.Path.{_≡_, refl, sym, ap, _∙_}
+use mathlib.Core.Path.{_≡_, refl, sym, _∙_}
 use native.Mathlib.Decide.{decLt}
 use native.Mathlib.Nat.{zero-div}
 use native.Mathlib.Omega.{arith}
 use borrow.Author.Tests.{eq-eqb, eqb-true}
 use lib.Dec.{eqb, lit<}
-use lib.ListN.{length}
-use Rattle.lists.specs.Below.{anyBelow}
 use Rattle.bits.specs.Bits.{isSet}
 use Rattle.format.specs.declared.Pattern.{Pattern}
 use Rattle.patterns.specs.Matching.{matches}
-use Rattle.choice.specs.Choosing.{choose}
 use Rattle.choice.specs.Sound.{Sound}
-use Rattle.choosing_facts.proofs.None.{none-at}
 use Rattle.choosing_facts.proofs.Fits.{fits-matches}
-use Rattle.trees.specs.Nodes.{nowhere, countOf, kindAt, bitAt, placeAt}
-use Rattle.trees.specs.Form.{start, side, nodeOk, formOf}
-use Rattle.trees.specs.Reach.{reachOf, reachFrom, right, provesWrong, Input}
-use Rattle.trees.specs.Judged.{bytesOf, Accepts, Rejects}
+use Rattle.trees.specs.Nodes.{countOf, kindAt, bitAt, placeAt}
+use Rattle.trees.specs.Form.{start, side, formOf}
+use Rattle.trees.specs.Reach.{reachOf, provesWrong, Input}
+use Rattle.trees.specs.Judged.{Accepts, Rejects}
 use Rattle.trees.specs.declared.Form.the-variants.{Good}
 use Rattle.tree_form.proofs.Trees.{Tree, tip, fork, tree-of, leaf-says}
-use Rattle.tree_rule.specs.Rule.{showsWrong, exampleWord, exampleContext}
-use Rattle.tree_rule.proofs.Rule.{Says, Example, good-right, bad-wrong}
+use Rattle.tree_rule.specs.Rule.{Says, showsWrong, exampleWord, exampleContext}
+use Rattle.tree_rule.proofs.Rule.{good-right, bad-wrong}
 use Rattle.tree_leaves.specs.Path.{pathFrom, pathOf}
 use Rattle.tree_leaves.proofs.Sides.{sound-start}
 use Rattle.tree_leaves.proofs.Reach.{span, side-sound, path-end, path-zero, path-one, Lands, lands, reach-path}
@@ -111,7 +106,7 @@ module _ (first : ℕ) (at : ℕ → Pattern) (n : ℕ) (b : List ℕ) (sound : 
         let says = tree-says first n b tree leaf (omega arith) l k in
         rw (good-right first at n sound low (pathOf b leaf) (leaf-sound leaf l k) (placeAt b leaf) says clear s c input on)
 
-  -- "accepted exactly when for every input of eight or more bytes and every context the leaf reached says what demand 2 takes"
+  -- demand 3: accepted exactly when for every input of eight or more bytes and every context the leaf reached says what demand 2 takes
   pub accepts : ((i : ℕ) → i < countOf b → kindAt b i ≡ 0 → Clear first at n b i) → Accepts first at n b
   accepts clear =
       record {
@@ -121,7 +116,7 @@ module _ (first : ℕ) (at : ℕ → Pattern) (n : ℕ) (b : List ℕ) (sound : 
             not-wrong s c input (reachOf b s c) (r .to) (r .leaf) (clear (reachOf b s c) (r .to) (r .leaf)) refl;
       }
 
-  -- "else the first wrong leaf is named with eight bytes and a context that prove it"
+  -- demand 3: else the first wrong leaf is named with eight bytes and a context that prove it
   pub rejects : (i j : ℕ) → i < countOf b → kindAt b i ≡ 0 → j < n → showsWrong first at (pathOf b i) (placeAt b i) j ≡ true
       → ((k : ℕ) → k < i → kindAt b k ≡ 0 → Clear first at n b k)
       → Rejects first at n b i (exampleWord (eqb (first + j) (placeAt b i)) (pathOf b i) (at j)) (exampleContext (eqb (first + j) (placeAt b i)) (pathOf b i) (at j))

@@ -3,7 +3,7 @@
 use Prim.Native.Nat.{ℕ, _+_, _-_, _<_, _≤_}
 use mathlib.Core.Bool.{Bool, true, false, not, _&&_, false≢true}
 use mathlib.Core.List.{List}
-use mathlib.Core.Logic.{_⊎_, inl, inr}
+use mathlib.Core.Logic.{inl, inr}
 use mathlib.Core.Path.{_≡_, refl, sym, _∙_}
 use native.Mathlib.Omega.{arith}
 use borrow.Author.Tests.{eq-eqb, ne-eqb, eqb-true, eqb-false, not-true, not-false}
@@ -22,13 +22,9 @@ use Rattle.choosing_facts.proofs.Taken.{Answer, cut, none, one, torn, answer, c
 use Rattle.trees.specs.Judged.{bytesOf}
 use Rattle.trees.specs.Nodes.{nowhere}
 use Rattle.trees.specs.Reach.{Input, right}
-use Rattle.tree_rule.specs.Rule.{refutes, showsWrong, exampleWord, exampleContext}
+use Rattle.tree_rule.specs.Rule.{Says, refutes, showsWrong, exampleWord, exampleContext}
 use Rattle.tree_rule.proofs.Bytes.{word-matches, matches-word, bytes-input, never-short}
 use Rattle.tree_rule.proofs.Filled.{path-fits, context-small, overlap-fits, turned-inside}
-
--- what a leaf's word may be
-abbrev pub Says : ℕ → ℕ → ℕ → Type 0
-Says first n v = (v ≡ nowhere) ⊎ ((first ≤ v) × (v < first + n))
 
 -- what it says of the table that a leaf is right
 data Right (first : ℕ) (at : ℕ → Pattern) (n : ℕ) (s : List ℕ) (c v : ℕ) : Type 0 where

@@ -1,11 +1,17 @@
 -- Which leaves are wrong, by a rule on patterns, and an input that proves it. p is the path to the leaf, as a pattern.
-use Prim.Native.Nat.{ℕ, _+_, _-_}
+use Prim.Native.Nat.{ℕ, _+_, _-_, _<_, _≤_}
 use mathlib.Core.Bool.{Bool, cond, _&&_, _||_, not}
+use mathlib.Core.Logic.{_⊎_}
+use mathlib.Core.Path.{_≡_}
 use lib.Bits.{bitAnd, bitOr, bitXor}
 use lib.Dec.{eqb}
 use Rattle.format.specs.declared.Pattern.{Pattern}
 use Rattle.patterns.specs.Relations.{inside, overlap}
 use Rattle.trees.specs.Nodes.{nowhere}
+
+-- what a leaf says, for a table of n records whose first is constructor `first`: none, or a constructor of the table
+abbrev pub Says : ℕ → ℕ → ℕ → Type 0
+Says first n v = (v ≡ nowhere) ⊎ ((first ≤ v) × (v < first + n))
 
 -- A leaf that says none is wrong where some pattern of the table overlaps p. A leaf that names a constructor is wrong where p does
 -- not lie inside its pattern, or where another pattern of the table overlaps p and the named one does not lie inside that or equals

@@ -14,12 +14,12 @@ unfoldable pub bytesOf : ℕ → ℕ → List ℕ
 bytesOf zero w = []
 bytesOf (suc n) w = w % 256 ∷ bytesOf n (w / 256)
 
--- "accepted exactly when for every input of eight or more bytes and every context the leaf reached says what demand 2 takes"
+-- accepted exactly when for every input of eight or more bytes and every context the leaf reached says what demand 2 takes
 pub record Accepts (first : ℕ) (at : ℕ → Pattern) (n : ℕ) (b : List ℕ) : Type 0 where
   pub leaf : (s : List ℕ) (c : ℕ) → Input s c → kindAt b (reachOf b s c) ≡ 0
   pub all : (s : List ℕ) (c : ℕ) → Input s c → provesWrong first at n b s c (reachOf b s c) ≡ false
 
--- "else the first wrong leaf is named with eight bytes and a context that prove it"
+-- else the first wrong leaf is named with eight bytes and a context that prove it
 pub record Rejects (first : ℕ) (at : ℕ → Pattern) (n : ℕ) (b : List ℕ) (i w c : ℕ) : Type 0 where
   pub input : Input (bytesOf 8 w) c
   pub leaf : kindAt b i ≡ 0

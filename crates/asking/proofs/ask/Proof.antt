@@ -9,28 +9,22 @@ use Rattle.asking.proofs.ask.Lts as lts
 use Rattle.asking.proofs.ask_in.Reads as ask-in-reads
 use Rattle.description.proofs.check.Reads as check-reads
 
--- src/lib.rt:58:9
 check-requires : tie.Need-check-requires
 check-requires c κs = search needs
 
--- src/lib.rt:60:23
 enum-known-checked : tie.Need-enum-known-checked
 enum-known-checked c = search needs
 
--- src/lib.rt:60:34
 ask-in-requires : tie.Need-ask-in-requires
 ask-in-requires c κs = formed _ _ (sym (c .before .before .before .check .ensures) ∙ c .before .checked .given .1)
 
--- src/lib.rt:61:26
 enum-known-checked-2 : tie.Need-enum-known-checked-2
 enum-known-checked-2 c = search needs
 
--- src/lib.rt:55:1
 returns : tie.Need-returns
 unfolding askOf
 returns c = rw (sym (c .before .before .before .before .check .ensures) ∙ c .before .before .checked .given .1) (c .ask-in .ensures)
 
--- src/lib.rt:55:1
 returns-2 : tie.Need-returns-2
 unfolding askOf
 returns-2 c = rw (sym (c .before .before .before .check .ensures) ∙ c .before .checked2 .given .1)

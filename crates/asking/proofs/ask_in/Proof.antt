@@ -4,10 +4,8 @@ use Rattle.choosing_facts.proofs.Taken.{taken-facts}
 use Rattle.tables.proofs.Range.{absent, there, in-section}
 use Rattle.format.proofs.Lists.{constructors-length}
 use Rattle.format.proofs.Formation.{obeyed}
-use Rattle.format.specs.Description.{description}
 use native.Mathlib.Omega.{arith}
-use mathlib.Core.Path.{_≡_, refl, sym, _∙_}
-use Prim.Native.Nat.{_<_}
+use mathlib.Core.Path.{refl, sym, _∙_}
 use borrow.Author.Needs.{needs}
 use Rattle.asking.proofs.ask_in.Statement.{statement}
 use Rattle.asking.proofs.ask_in.Tie as tie
@@ -17,34 +15,27 @@ use Rattle.asking.proofs.taken.Reads as taken-reads
 use Rattle.choosing.proofs.choose_in.Reads as choose-in-reads
 use Rattle.tables.proofs.table_of.Reads as table-of-reads
 
--- src/lib.rt:41:9
 table-of-requires : tie.Need-table-of-requires
 table-of-requires c κs = search needs
 
--- src/lib.rt:43:9
 returns : tie.Need-returns
 unfolding askIn
 returns c = rw (absent _ (obeyed _ _ (c .before .before .before .before .before .pre)) _ _ _ (c .before .before .table-of .ensures .0) (c .before .before .table-of .ensures .1) (c .if1 .taken))
 
--- src/lib.rt:45:9
 choose-in-requires : tie.Need-choose-in-requires
 choose-in-requires c κs =
     let s = c .before .before .before .before .before in
     (s .pre .room, rw constructors-length at (in-section _ (obeyed _ _ (s .pre)) _ _ _ (c .before .before .table-of .ensures .0) (c .before .before .table-of .ensures .1)))
 
--- src/lib.rt:47:26
 enum-told : tie.Need-enum-told
 enum-told c = search needs
 
--- src/lib.rt:48:28
 enum-told-2 : tie.Need-enum-told-2
 enum-told-2 c = search needs
 
--- src/lib.rt:49:23
 enum-known-choice : tie.Need-enum-known-choice
 enum-known-choice c = search needs
 
--- src/lib.rt:49:29
 taken-requires : tie.Need-taken-requires
 taken-requires c κs =
     let s = c .before .before .before .before .before .before .before .before .before in
@@ -52,25 +43,21 @@ taken-requires c κs =
     let n = rw constructors-length at (in-section _ (obeyed _ _ (s .pre)) _ _ _ (c .before .before .before .before .before .before .table-of .ensures .0) (c .before .before .before .before .before .before .table-of .ensures .1)) in
     (s .pre .room, omega (arith, f .within, n))
 
--- src/lib.rt:50:30
 enum-told-3 : tie.Need-enum-told-3
 enum-told-3 c = search needs
 
--- src/lib.rt:37:1
 returns-2 : tie.Need-returns-2
 returns-2 c =
     answer _ _ _ _ _ _ (c .before .before .before .before .before .table-of .ensures .0) (c .before .before .before .before .before .table-of .ensures .1)
     (there _ (obeyed _ _ (c .before .before .before .before .before .before .before .before .pre)) _ _ _ (c .before .before .before .before .before .table-of .ensures .0) (c .before .before .before .before .before .table-of .ensures .1) (c .before .before .before .if1 .left)) _
     (sym (c .before .before .choose-in .ensures) ∙ c .enum-told .given .1)
 
--- src/lib.rt:37:1
 returns-3 : tie.Need-returns-3
 returns-3 c =
     answer _ _ _ _ _ _ (c .before .before .before .before .before .table-of .ensures .0) (c .before .before .before .before .before .table-of .ensures .1)
     (there _ (obeyed _ _ (c .before .before .before .before .before .before .before .before .pre)) _ _ _ (c .before .before .before .before .before .table-of .ensures .0) (c .before .before .before .before .before .table-of .ensures .1) (c .before .before .before .if1 .left)) _
     (sym (c .before .before .choose-in .ensures) ∙ c .enum-told2 .given .1)
 
--- src/lib.rt:37:1
 returns-4 : tie.Need-returns-4
 returns-4 c =
     c .taken .ensures
@@ -79,7 +66,6 @@ returns-4 c =
     (there _ (obeyed _ _ (c .before .before .before .before .before .before .before .before .before .before .pre)) _ _ _ (c .before .before .before .before .before .before .before .table-of .ensures .0) (c .before .before .before .before .before .before .before .table-of .ensures .1) (c .before .before .before .before .before .if1 .left)) _
     (sym (c .before .before .before .before .choose-in .ensures) ∙ c .before .before .choice .given .1))
 
--- src/lib.rt:37:1
 returns-5 : tie.Need-returns-5
 returns-5 c =
     answer _ _ _ _ _ _ (c .before .before .before .before .before .table-of .ensures .0) (c .before .before .before .before .before .table-of .ensures .1)

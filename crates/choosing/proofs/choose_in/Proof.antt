@@ -1,9 +1,7 @@
 use Rattle.choosing.proofs.Settling.{rows-small, cut-short, settled}
-use Rattle.choosing.specs.Scan.{Tells}
 use Rattle.choosing.specs.Table.{patternFrom}
 use Rattle.format.specs.Description.{description}
 use native.Mathlib.Omega.{arith}
-use mathlib.Core.Path.{sym, _∙_}
 use borrow.Author.Needs.{needs}
 use Rattle.choosing.proofs.choose_in.Statement.{statement}
 use Rattle.choosing.proofs.choose_in.Tie as tie
@@ -13,39 +11,32 @@ use Rattle.choosing.proofs.scan.Reads as scan-reads
 use Rattle.choosing.proofs.settle.Reads as settle-reads
 use Rattle.patterns.proofs.input_of.Reads as input-of-reads
 
--- src/lib.rt:139:9
 input-of-requires : tie.Need-input-of-requires
 input-of-requires c κs = search needs
 
--- src/lib.rt:140:9
 scan-requires : tie.Need-scan-requires
 scan-requires c κs = search needs
 
--- src/lib.rt:142:25
 enum-told : tie.Need-enum-told
 enum-told c = search needs
 
--- src/lib.rt:143:22
 enum-known-scanned : tie.Need-enum-known-scanned
 enum-known-scanned c = search needs
 
--- src/lib.rt:143:31
 settle-requires : tie.Need-settle-requires
 settle-requires c κs =
     let t = rw (c .before .scanned .given .1) at (c .before .before .before .scan .ensures) in
     (c .before .before .before .before .before .before .before .pre .0, (c .before .before .before .before .before .before .before .pre .1, t .1))
 
--- src/lib.rt:134:1
 returns : tie.Need-returns
 returns c =
     let s = c .before .before .before .before .before .before in
     cut-short (patternFrom (description (s .args .desc .now) (s .args .layout)) (s .args .table .first)) (s .args .table .count) (s .args .code .now) (s .args .context)
     (c .before .before .before .input-of .result)
     (rows-small (s .args .desc .now) (s .args .layout) (λ i. omega (arith, c .before .before .before .before .before .shared-slice-known .given i)) (s .args .table .first))
-    (c .before .before .before .input-of .ensures)
+    (λ i. omega (arith, c .before .before .before .before .shared-slice-known2 .given i)) (search needs) (c .before .before .before .input-of .ensures)
     (rw (c .enum-told .given .1) at (c .before .before .scan .ensures))
 
--- src/lib.rt:134:1
 returns-2 : tie.Need-returns-2
 returns-2 c =
     let s = c .before .before .before .before .before .before .before .before in
@@ -53,6 +44,7 @@ returns-2 c =
     settled (patternFrom (description (s .args .desc .now) (s .args .layout)) (s .args .table .first)) (s .args .table .count) (s .args .code .now) (s .args .context)
     (c .before .before .before .before .before .input-of .result)
     (rows-small (s .args .desc .now) (s .args .layout) (λ i. omega (arith, c .before .before .before .before .before .before .before .shared-slice-known .given i)) (s .args .table .first))
+    (λ i. omega (arith, c .before .before .before .before .before .before .shared-slice-known2 .given i)) (search needs)
     (c .before .before .before .before .before .input-of .ensures) (t .0) (c .settle .result) (c .settle .ensures)
 
 pub choose-in-spec : {M : Type 1} → statement M

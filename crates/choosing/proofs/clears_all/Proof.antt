@@ -41,51 +41,39 @@ clear-is c =
     (c .before .before .before .before .before .before .before .before .row .result) (c .before .before .before .agrees .result) (c .before .before .whole .result) (c .before .lies-inside .result) (c .lies-inside2 .result)
     (c .before .before .before .before .before .before .before .before .row .ensures) (c .before .before .before .agrees .ensures) (c .before .before .whole .ensures) (c .before .lies-inside .ensures) (c .lies-inside2 .ensures)
 
--- src/lib.rt:99:9
 row-requires : tie.Need-row-requires Inv-loop μ-loop
 row-requires c κs = (c .before .pre .0, omega arith)
 
--- src/lib.rt:101:5
 loop-holds : tie.Need-loop-holds Inv-loop μ-loop
 loop-holds c = (omega arith, all-none _)
 
--- src/lib.rt:102:13
 row-requires-2 : tie.Need-row-requires-2 Inv-loop μ-loop
 row-requires-2 c κs = (c .before .before .before .before .before .pre .0, omega arith)
 
--- src/lib.rt:103:19
 agrees-requires : tie.Need-agrees-requires Inv-loop μ-loop
 agrees-requires c κs = search needs
 
--- src/lib.rt:103:48
 whole-requires : tie.Need-whole-requires Inv-loop μ-loop
 whole-requires c κs = search needs
 
--- src/lib.rt:104:40
 lies-inside-requires : tie.Need-lies-inside-requires Inv-loop μ-loop
 lies-inside-requires c κs = search needs
 
--- src/lib.rt:104:71
 lies-inside-requires-2 : tie.Need-lies-inside-requires-2 Inv-loop μ-loop
 lies-inside-requires-2 c κs = search needs
 
--- src/lib.rt:106:13
 add-j : tie.Need-add-j Inv-loop μ-loop
 add-j c = omega arith
 
--- src/lib.rt:101:5
 loop-less : tie.Need-loop-less Inv-loop μ-loop
 loop-less c = omega arith
 
--- src/lib.rt:101:5
 loop-again : tie.Need-loop-again Inv-loop μ-loop
 loop-again c = (omega arith, all-more _ (c .before .before .before .before .before .before .before .before .loop .j) (c .before .before .before .before .before .before .before .before .loop .inv .1) (sym (clear-is (c .before)) ∙ c .if2 .taken))
 
--- src/lib.rt:108:13
 returns : tie.Need-returns Inv-loop μ-loop
 returns c = sym (all-stop _ _ (c .before .before .before .before .before .before .before .before .loop .j) (c .before .before .before .before .before .before .if1 .taken) (sym (clear-is (c .before)) ∙ c .if2 .left))
 
--- src/lib.rt:93:1
 returns-2 : tie.Need-returns-2 Inv-loop μ-loop
 returns-2 c =
     let s : c .before .before .loop .j ≡ c .before .before .before .before .before .args .table .count = omega arith in

@@ -9,31 +9,25 @@ use Rattle.choosing.proofs.meet.Lts as lts
 use Rattle.choosing.proofs.row.Reads as row-reads
 use Rattle.patterns.proofs.lies_inside.Reads as lies-inside-reads
 
--- src/lib.rt:44:13
 row-requires : tie.Need-row-requires
 row-requires c κs = (c .before .before .pre .0, c .before .before .pre .1 .0 (c .if1 .taken))
 
--- src/lib.rt:45:13
 lies-inside-requires : tie.Need-lies-inside-requires
 lies-inside-requires c κs = search needs
 
--- src/lib.rt:46:12
 lies-inside-requires-2 : tie.Need-lies-inside-requires-2
 lies-inside-requires-2 c κs = search needs
 
--- src/lib.rt:47:13
 returns : tie.Need-returns
 returns c =
     met-inner _ (c .before .before .before .before .before .before .before .args .best) (c .before .before .before .before .before .before .before .args .j) (c .before .before .before .before .before .before .before .args .p) (c .before .before .before .before .row .result) (c .before .before .before .lies-inside .result) (c .before .before .before .before .before .if1 .taken)
     (c .before .before .before .before .before .before .before .pre .1 .1) (c .before .before .before .before .row .ensures) (c .before .before .before .lies-inside .ensures) (sym (c .before .before .lies-inside2 .ensures) ∙ c .before .if2 .taken)
 
--- src/lib.rt:53:9
 returns-2 : tie.Need-returns-2
 returns-2 c =
     met-outer _ (c .before .before .before .before .before .before .before .args .best) (c .before .before .before .before .before .before .before .args .j) (c .before .before .before .before .before .before .before .args .p) (c .before .before .before .before .row .result) (c .before .before .before .lies-inside .result) (c .before .before .before .before .before .if1 .taken)
     (c .before .before .before .before .before .before .before .pre .1 .1) (c .before .before .before .before .row .ensures) (c .before .before .before .lies-inside .ensures) (sym (c .before .before .lies-inside2 .ensures) ∙ c .before .if2 .left)
 
--- src/lib.rt:37:1
 returns-3 : tie.Need-returns-3
 unfolding met
 returns-3 c = rw (c .if1 .left)

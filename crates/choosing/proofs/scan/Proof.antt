@@ -3,14 +3,13 @@ use Rattle.choosing.proofs.Keeping.{is-match, is-short, is-none}
 use Rattle.choosing.proofs.Keeping.{kept-none, kept-skip, kept-met, none-more}
 use Rattle.choosing.specs.Scan.{wordShort, wordMatch, Kept}
 use Rattle.choosing.specs.Table.{patternFrom}
-use Rattle.patterns.specs.Words.{wordsAgree, wordsWhole}
 use Rattle.format.specs.Description.{description}
 use Rattle.lists.proofs.Below.{any-none, any-at}
 use Rattle.lists.specs.Below.{anyBelow}
 use borrow.Author.Needs.{needs}
 use native.Mathlib.Omega.{arith}
-use mathlib.Core.Path.{_≡_, refl, sym, ap, _∙_}
-use mathlib.Core.Bool.{true, false, not, _&&_}
+use mathlib.Core.Path.{_≡_, sym, _∙_}
+use mathlib.Core.Bool.{false}
 use Prim.Native.Nat.{ℕ, _≤_, _-_}
 use Rattle.choosing.proofs.scan.Statement.{statement}
 use Rattle.choosing.proofs.scan.Tie as tie
@@ -34,37 +33,29 @@ abbrev μ-loop : tie.MeasureT-loop
 abbrev rows : tie.Start Inv-loop μ-loop → ℕ → Pattern
 rows s = patternFrom (description (s .args .desc .now) (s .args .layout)) (s .args .table .first)
 
--- src/lib.rt:77:5
 loop-holds : tie.Need-loop-holds Inv-loop μ-loop
 loop-holds c = (omega arith, any-none _, kept-none _ _ _)
 
--- src/lib.rt:79:16
 add-next : tie.Need-add-next Inv-loop μ-loop
 add-next c = omega arith
 
--- src/lib.rt:80:13
 row-requires : tie.Need-row-requires Inv-loop μ-loop
 row-requires c κs = (c .before .before .before .before .pre .0, omega arith)
 
--- src/lib.rt:81:12
 agrees-requires : tie.Need-agrees-requires Inv-loop μ-loop
 agrees-requires c κs = search needs
 
--- src/lib.rt:82:16
 whole-requires : tie.Need-whole-requires Inv-loop μ-loop
 whole-requires c κs = search needs
 
--- src/lib.rt:83:17
 meet-requires : tie.Need-meet-requires Inv-loop μ-loop
 meet-requires c κs =
     let k = c .before .before .before .before .before .before .before .loop .inv .2 in
     (c .before .before .before .before .before .before .before .before .before .pre .0, (λ f. omega (arith, k .best f .0), c .before .before .before .before .row .ensures))
 
--- src/lib.rt:77:5
 loop-less : tie.Need-loop-less Inv-loop μ-loop
 loop-less c = omega arith
 
--- src/lib.rt:77:5
 loop-again : tie.Need-loop-again Inv-loop μ-loop
 loop-again c =
     let inv = c .before .before .before .before .before .before .before .before .loop .inv in
@@ -74,17 +65,14 @@ loop-again c =
       rw (c .meet .ensures) (kept-met _ _ _ (c .before .before .before .before .before .before .before .before .loop .next) (c .before .before .before .before .before .before .before .before .loop .best) (t .1) (inv .2) (omega arith)),
     )
 
--- src/lib.rt:85:17
 returns : tie.Need-returns Inv-loop μ-loop
 returns c =
     any-at _ _ (c .before .before .before .before .before .before .before .loop .next) (c .before .before .before .before .before .if1 .taken)
     (is-short (rows (c .before .before .before .before .before .before .before .before .before)) (c .before .before .before .before .before .before .before .before .before .args .input) (c .before .before .before .before .before .before .before .loop .next) (c .before .before .before .before .row .result) (c .before .before .before .before .row .ensures) (sym (c .before .before .before .agrees .ensures) ∙ c .before .before .if2 .taken) (sym (c .before .whole .ensures) ∙ c .if3 .left))
 
--- src/lib.rt:77:5
 loop-less-2 : tie.Need-loop-less-2 Inv-loop μ-loop
 loop-less-2 c = omega arith
 
--- src/lib.rt:77:5
 loop-again-2 : tie.Need-loop-again-2 Inv-loop μ-loop
 loop-again-2 c =
     let inv = c .before .before .before .before .before .loop .inv in
@@ -94,7 +82,6 @@ loop-again-2 c =
       kept-skip _ _ _ (c .before .before .before .before .before .loop .next) (c .before .before .before .before .before .loop .best) (t .1) (inv .2),
     )
 
--- src/lib.rt:66:1
 returns-2 : tie.Need-returns-2 Inv-loop μ-loop
 returns-2 c =
     let s : c .before .before .loop .next ≡ c .before .before .before .before .args .table .count = omega arith in

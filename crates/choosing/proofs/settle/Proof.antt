@@ -1,8 +1,5 @@
 use Rattle.choosing.proofs.Keeping.{clears-inmost, inmost-clears}
-use Rattle.choosing.specs.Scan.{wordMatch}
-use Rattle.choosing.specs.Table.{patternFrom}
-use Rattle.format.specs.Description.{description}
-use mathlib.Core.Path.{_≡_, sym, _∙_}
+use mathlib.Core.Path.{sym, _∙_}
 use mathlib.Core.Bool.{true, false, false≢true}
 use borrow.Author.Needs.{needs}
 use Rattle.choosing.proofs.settle.Statement.{statement}
@@ -11,18 +8,15 @@ use Rattle.choosing.proofs.settle.Reads as reads
 use Rattle.choosing.proofs.settle.Lts as lts
 use Rattle.choosing.proofs.clears_all.Reads as clears-all-reads
 
--- src/lib.rt:123:16
 clears-all-requires : tie.Need-clears-all-requires
 clears-all-requires c κs = (c .before .before .before .pre .0, (c .before .before .before .pre .1 .0, c .before .before .before .pre .1 .1 .best (c .before .if1 .taken) .0))
 
--- src/lib.rt:124:17
 returns : tie.Need-returns
 returns c =
     let k = c .before .before .before .before .before .pre .1 .1 in
     let b = k .best (c .before .before .before .if1 .taken) in
     clears-inmost _ _ _ _ (b .0) (b .1) (sym (c .before .clears-all .ensures) ∙ c .if3 .taken)
 
--- src/lib.rt:126:13
 returns-2 : tie.Need-returns-2
 returns-2 c =
     let k = c .before .before .before .before .before .pre .1 .1 in (
@@ -32,11 +26,9 @@ returns-2 c =
           false≢true (sym (c .if3 .left) ∙ (c .before .clears-all .ensures ∙ inmost-clears _ _ _ _ (rw (← h) at m))),
     )
 
--- src/lib.rt:128:9
 returns-3 : tie.Need-returns-3
 returns-3 c = c .before .before .before .pre .1 .1 .sure (c .before .if1 .taken) (c .if2 .left)
 
--- src/lib.rt:115:1
 returns-4 : tie.Need-returns-4
 returns-4 c = search needs
 

@@ -9,28 +9,22 @@ use Rattle.clashing.proofs.clash.Lts as lts
 use Rattle.clashing.proofs.clash_in.Reads as clash-in-reads
 use Rattle.description.proofs.check.Reads as check-reads
 
--- src/lib.rt:115:9
 check-requires : tie.Need-check-requires
 check-requires c κs = search needs
 
--- src/lib.rt:117:23
 enum-known-checked : tie.Need-enum-known-checked
 enum-known-checked c = search needs
 
--- src/lib.rt:117:34
 clash-in-requires : tie.Need-clash-in-requires
 clash-in-requires c κs = formed _ _ (sym (c .before .before .before .check .ensures) ∙ c .before .checked .given .1)
 
--- src/lib.rt:118:26
 enum-known-checked-2 : tie.Need-enum-known-checked-2
 enum-known-checked-2 c = search needs
 
--- src/lib.rt:112:1
 returns : tie.Need-returns
 unfolding clashAnswer
 returns c = rw (sym (c .before .before .before .before .check .ensures) ∙ c .before .before .checked .given .1) (c .clash-in .ensures)
 
--- src/lib.rt:112:1
 returns-2 : tie.Need-returns-2
 unfolding clashAnswer
 returns-2 c = rw (sym (c .before .before .before .check .ensures) ∙ c .before .checked2 .given .1)

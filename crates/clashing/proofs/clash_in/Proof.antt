@@ -5,7 +5,7 @@ use Rattle.tables.proofs.Range.{absent, there, in-section}
 use Rattle.format.proofs.Lists.{constructors-length}
 use Rattle.format.proofs.Formation.{obeyed}
 use native.Mathlib.Omega.{arith}
-use mathlib.Core.Path.{_≡_, refl, sym, _∙_}
+use mathlib.Core.Path.{sym, _∙_}
 use Prim.Native.Nat.{_+_, _≤_}
 use borrow.Author.Needs.{needs}
 use Rattle.clashing.proofs.clash_in.Statement.{statement}
@@ -15,30 +15,24 @@ use Rattle.clashing.proofs.clash_in.Lts as lts
 use Rattle.clashing.proofs.first_clash.Reads as first-clash-reads
 use Rattle.tables.proofs.table_of.Reads as table-of-reads
 
--- src/lib.rt:100:9
 table-of-requires : tie.Need-table-of-requires
 table-of-requires c κs = search needs
 
--- src/lib.rt:102:9
 returns : tie.Need-returns
 unfolding clashIn
 returns c = rw (absent _ (obeyed _ _ (c .before .before .before .before .pre)) _ _ _ (c .before .before .table-of .ensures .0) (c .before .before .table-of .ensures .1) (c .if1 .taken))
 
--- src/lib.rt:104:9
 first-clash-requires : tie.Need-first-clash-requires
 first-clash-requires c κs =
     let s = c .before .before .before .before in
     (s .pre .room, rw constructors-length at (in-section _ (obeyed _ _ (s .pre)) _ _ _ (c .before .before .table-of .ensures .0) (c .before .before .table-of .ensures .1)))
 
--- src/lib.rt:106:25
 enum-told : tie.Need-enum-told
 enum-told c = search needs
 
--- src/lib.rt:107:21
 enum-known-found : tie.Need-enum-known-found
 enum-known-found c = search needs
 
--- src/lib.rt:107:43
 add-t10 : tie.Need-add-t10
 add-t10 c =
     let s = c .before .before .before .before .before .before .before .before .before in
@@ -46,7 +40,6 @@ add-t10 c =
     let n : c .before .before .before .before .before .before .before .table-of .result .first + c .before .before .before .before .before .before .before .table-of .result .count ≤ s .args .layout .constructors .count = rw constructors-length at (in-section _ (obeyed _ _ (s .pre)) _ _ _ (c .before .before .before .before .before .before .before .table-of .ensures .0) (c .before .before .before .before .before .before .before .table-of .ensures .1)) in
     omega (arith, p .order, p .inside, s .pre .room .constructors)
 
--- src/lib.rt:107:60
 add-t11 : tie.Need-add-t11
 add-t11 c =
     let s = c .before .before .before .before .before .before .before .before .before .before in
@@ -54,14 +47,12 @@ add-t11 c =
     let n : c .before .before .before .before .before .before .before .before .table-of .result .first + c .before .before .before .before .before .before .before .before .table-of .result .count ≤ s .args .layout .constructors .count = rw constructors-length at (in-section _ (obeyed _ _ (s .pre)) _ _ _ (c .before .before .before .before .before .before .before .before .table-of .ensures .0) (c .before .before .before .before .before .before .before .before .table-of .ensures .1)) in
     omega (arith, p .order, p .inside, s .pre .room .constructors)
 
--- src/lib.rt:96:1
 returns-2 : tie.Need-returns-2
 returns-2 c =
     answer _ _ _ _ (c .before .before .before .before .before .table-of .ensures .0) (c .before .before .before .before .before .table-of .ensures .1)
     (there _ (obeyed _ _ (c .before .before .before .before .before .before .before .pre)) _ _ _ (c .before .before .before .before .before .table-of .ensures .0) (c .before .before .before .before .before .table-of .ensures .1) (c .before .before .before .if1 .left)) _
     (sym (c .before .before .first-clash .ensures) ∙ c .enum-told .given .1)
 
--- src/lib.rt:96:1
 returns-3 : tie.Need-returns-3
 returns-3 c =
     answer _ _ _ _ (c .before .before .before .before .before .before .before .before .table-of .ensures .0) (c .before .before .before .before .before .before .before .before .table-of .ensures .1)

@@ -8,21 +8,17 @@ use Rattle.clashing.proofs.clashes.Lts as lts
 use Rattle.clashing.proofs.crosses.Reads as crosses-reads
 use Rattle.patterns.proofs.overlaps.Reads as overlaps-reads
 
--- src/lib.rt:80:8
 overlaps-requires : tie.Need-overlaps-requires
 overlaps-requires c κs = search needs
 
--- src/lib.rt:81:9
 crosses-requires : tie.Need-crosses-requires
 crosses-requires c κs =
     let s = c .before .before .before in
     (s .pre .0, (s .pre .1 .0, (s .pre .1 .1 .0, (s .pre .1 .1 .1, sym (c .before .overlaps .ensures) ∙ c .if1 .taken))))
 
--- src/lib.rt:81:9
 returns : tie.Need-returns
 returns c = search needs
 
--- src/lib.rt:65:1
 returns-2 : tie.Need-returns-2
 returns-2 c = clash-apart _ _ _ _ _ _ (c .before .before .before .pre .1 .1 .0) (c .before .before .before .pre .1 .1 .1) (sym (c .before .overlaps .ensures) ∙ c .if1 .left)
 

@@ -10,40 +10,32 @@ use Rattle.patterns.proofs.joined.Reads as joined-reads
 use Rattle.patterns.proofs.lies_inside.Reads as lies-inside-reads
 use Rattle.patterns.proofs.same.Reads as same-reads
 
--- src/lib.rt:53:8
 same-requires : tie.Need-same-requires
 same-requires c κs = search needs
 
--- src/lib.rt:54:9
 returns : tie.Need-returns
 returns c =
     let s = c .before .before .before in
     clash-same _ _ _ _ _ _ (s .pre .1 .1 .0) (s .pre .1 .1 .1 .0) (sym (c .before .same .ensures) ∙ c .if1 .taken)
 
--- src/lib.rt:56:8
 lies-inside-requires : tie.Need-lies-inside-requires
 lies-inside-requires c κs = search needs
 
--- src/lib.rt:56:38
 lies-inside-requires-2 : tie.Need-lies-inside-requires-2
 lies-inside-requires-2 c κs = search needs
 
--- src/lib.rt:57:9
 returns-2 : tie.Need-returns-2
 returns-2 c =
     let s = c .before .before .before .before .before .before in
     clash-nested _ _ _ _ _ _ (s .pre .1 .1 .0) (s .pre .1 .1 .1 .0) (sym (c .before .before .before .before .same .ensures) ∙ c .before .before .before .if1 .left)
     (rw (c .before .before .lies-inside .ensures, c .before .lies-inside2 .ensures) at (c .if2 .taken))
 
--- src/lib.rt:59:9
 joined-requires : tie.Need-joined-requires
 joined-requires c κs = search needs
 
--- src/lib.rt:60:9
 has-third-requires : tie.Need-has-third-requires
 has-third-requires c κs = search needs
 
--- src/lib.rt:45:1
 returns-3 : tie.Need-returns-3
 returns-3 c =
     let s = c .before .before .before .before .before .before .before .before in

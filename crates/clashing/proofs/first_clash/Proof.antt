@@ -5,9 +5,9 @@ use Rattle.lists.proofs.Below.{all-none}
 use Rattle.lists.specs.Below.{allBelow}
 use borrow.Author.Needs.{needs}
 use native.Mathlib.Omega.{arith}
-use mathlib.Core.Path.{_≡_, sym, _∙_}
+use mathlib.Core.Path.{_≡_}
 use mathlib.Core.Bool.{true}
-use Prim.Native.Nat.{ℕ, _≤_, _-_}
+use Prim.Native.Nat.{_≤_, _-_}
 use Rattle.clashing.proofs.first_clash.Statement.{statement}
 use Rattle.clashing.proofs.first_clash.Tie as tie
 use Rattle.clashing.proofs.first_clash.Reads as reads
@@ -21,31 +21,24 @@ Inv-loop desc layout table i₀ i =
 abbrev μ-loop : tie.MeasureT-loop
 μ-loop desc layout table i₀ i = table .count - i
 
--- src/lib.rt:86:5
 loop-holds : tie.Need-loop-holds Inv-loop μ-loop
 loop-holds c = (omega arith, all-none _)
 
--- src/lib.rt:87:13
 partner-of-requires : tie.Need-partner-of-requires Inv-loop μ-loop
 partner-of-requires c κs = search needs
 
--- src/lib.rt:89:13
 returns : tie.Need-returns Inv-loop μ-loop
 returns c = pair-found _ _ (c .before .before .before .before .before .loop .i) _ (c .before .before .before .if1 .taken) (c .before .before .partner-of .ensures) (c .if2 .taken) (c .before .before .before .before .before .loop .inv .1)
 
--- src/lib.rt:91:9
 add-i : tie.Need-add-i Inv-loop μ-loop
 add-i c = omega arith
 
--- src/lib.rt:86:5
 loop-less : tie.Need-loop-less Inv-loop μ-loop
 loop-less c = omega arith
 
--- src/lib.rt:86:5
 loop-again : tie.Need-loop-again Inv-loop μ-loop
 loop-again c = (omega arith, quiet-more _ _ (c .before .before .before .before .before .loop .i) _ (c .before .before .partner-of .ensures) (c .if2 .left) (c .before .before .before .before .before .loop .inv .1))
 
--- src/lib.rt:80:1
 returns-2 : tie.Need-returns-2 Inv-loop μ-loop
 returns-2 c =
     let s : c .before .before .loop .i ≡ c .before .before .before .before .args .table .count = omega arith in

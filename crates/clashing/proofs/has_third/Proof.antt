@@ -8,7 +8,7 @@ use lib.Dec.{eqb}
 use borrow.Author.Needs.{needs}
 use native.Mathlib.Omega.{arith}
 use mathlib.Core.Path.{_≡_, sym, _∙_}
-use mathlib.Core.Bool.{Bool, true, false, not, _&&_}
+use mathlib.Core.Bool.{Bool, false, not, _&&_}
 use Prim.Native.Nat.{ℕ, _≤_, _-_}
 use Rattle.clashing.proofs.has_third.Statement.{statement}
 use Rattle.clashing.proofs.has_third.Tie as tie
@@ -37,33 +37,26 @@ test-is : (c : tie.After-same Inv-loop μ-loop)
     ≡ is (rows (c .before .before .before .before .before .before)) (c .before .before .before .before .before .before .args .i) (c .before .before .before .before .before .before .args .j) (c .before .before .before .before .before .before .args .p) (c .before .before .before .before .loop .t)
 test-is c = rw (c .same .ensures, c .before .row .ensures)
 
--- src/lib.rt:32:5
 loop-holds : tie.Need-loop-holds Inv-loop μ-loop
 loop-holds c = (omega arith, any-none _)
 
--- src/lib.rt:33:13
 row-requires : tie.Need-row-requires Inv-loop μ-loop
 row-requires c κs = search needs
 
--- src/lib.rt:34:34
 same-requires : tie.Need-same-requires Inv-loop μ-loop
 same-requires c κs = search needs
 
--- src/lib.rt:35:13
 returns : tie.Need-returns Inv-loop μ-loop
 returns c =
     sym (any-at (is (rows (c .before .before .before .before .before .before .before)) (c .before .before .before .before .before .before .before .args .i) (c .before .before .before .before .before .before .before .args .j) (c .before .before .before .before .before .before .before .args .p)) _ (c .before .before .before .before .before .loop .t) (c .before .before .before .if1 .taken)
     (sym (test-is (c .before)) ∙ c .if2 .taken))
 
--- src/lib.rt:37:9
 add-t : tie.Need-add-t Inv-loop μ-loop
 add-t c = omega arith
 
--- src/lib.rt:32:5
 loop-less : tie.Need-loop-less Inv-loop μ-loop
 loop-less c = omega arith
 
--- src/lib.rt:32:5
 loop-again : tie.Need-loop-again Inv-loop μ-loop
 loop-again c =
     let f = is (rows (c .before .before .before .before .before .before .before)) (c .before .before .before .before .before .before .before .args .i) (c .before .before .before .before .before .before .before .args .j) (c .before .before .before .before .before .before .before .args .p) in (
@@ -71,7 +64,6 @@ loop-again c =
       any-more f (c .before .before .before .before .before .loop .t) ∙ rw (c .before .before .before .before .before .loop .inv .1) (sym (test-is (c .before)) ∙ c .if2 .left),
     )
 
--- src/lib.rt:26:1
 returns-2 : tie.Need-returns-2 Inv-loop μ-loop
 returns-2 c =
     let s : c .before .before .loop .t ≡ c .before .before .before .before .args .table .count = omega arith in

@@ -2,11 +2,10 @@ use Rattle.clashing.proofs.Pairs.{parted, parted-first, parted-more, pa
 use Rattle.choosing.specs.Table.{patternFrom}
 use Rattle.format.specs.Description.{description}
 use Rattle.lists.specs.Below.{allBelow}
-use borrow.Author.Needs.{needs}
 use native.Mathlib.Omega.{arith}
 use mathlib.Core.Path.{_≡_, sym, _∙_}
 use mathlib.Core.Bool.{true}
-use Prim.Native.Nat.{ℕ, _≤_, _+_, _-_}
+use Prim.Native.Nat.{_≤_, _+_, _-_}
 use Rattle.clashing.proofs.partner_of.Statement.{statement}
 use Rattle.clashing.proofs.partner_of.Tie as tie
 use Rattle.clashing.proofs.partner_of.Reads as reads
@@ -22,42 +21,33 @@ Inv-loop desc layout table i a j₀ j =
 abbrev μ-loop : tie.MeasureT-loop
 μ-loop desc layout table i a j₀ j = table .count - j
 
--- src/lib.rt:68:9
 row-requires : tie.Need-row-requires Inv-loop μ-loop
 row-requires c κs = (c .before .pre .0, omega arith)
 
--- src/lib.rt:69:17
 add-j : tie.Need-add-j Inv-loop μ-loop
 add-j c = omega arith
 
--- src/lib.rt:70:5
 loop-holds : tie.Need-loop-holds Inv-loop μ-loop
 loop-holds c = (omega arith, omega arith, c .row .ensures, parted-first _ _ _)
 
--- src/lib.rt:71:13
 row-requires-2 : tie.Need-row-requires-2 Inv-loop μ-loop
 row-requires-2 c κs = (c .before .before .before .before .before .pre .0, omega arith)
 
--- src/lib.rt:72:12
 clashes-requires : tie.Need-clashes-requires Inv-loop μ-loop
 clashes-requires c κs =
     let s = c .before .before .before .before .before .before in
     (s .pre .0, (s .pre .1 .0, (c .before .before .before .loop .inv .2, c .row2 .ensures)))
 
--- src/lib.rt:73:13
 returns : tie.Need-returns Inv-loop μ-loop
 returns c =
     partner-stop _ _ _ (c .before .before .before .before .before .loop .j) (omega arith) (c .before .before .before .if1 .taken) (sym (c .before .clashes .ensures) ∙ c .if2 .taken) (c .before .before .before .before .before .loop .inv .3)
 
--- src/lib.rt:75:9
 add-j-2 : tie.Need-add-j-2 Inv-loop μ-loop
 add-j-2 c = omega arith
 
--- src/lib.rt:70:5
 loop-less : tie.Need-loop-less Inv-loop μ-loop
 loop-less c = omega arith
 
--- src/lib.rt:70:5
 loop-again : tie.Need-loop-again Inv-loop μ-loop
 loop-again c = (
   omega arith,
@@ -66,7 +56,6 @@ loop-again c = (
   parted-more _ _ _ (c .before .before .before .before .before .loop .j) (omega arith) (sym (c .before .clashes .ensures) ∙ c .if2 .left) (c .before .before .before .before .before .loop .inv .3),
 )
 
--- src/lib.rt:62:1
 returns-2 : tie.Need-returns-2 Inv-loop μ-loop
 returns-2 c =
     let s : c .before .before .loop .j ≡ c .before .before .before .before .before .args .table .count = omega arith in

@@ -5,7 +5,6 @@ use Rattle.patterns.proofs.lies_inside.Tie as tie
 use Rattle.patterns.proofs.lies_inside.Reads as reads
 use Rattle.patterns.proofs.lies_inside.Lts as lts
 
--- src/lib.rt:71:1
 returns : tie.Need-returns
 returns c =
     inside-is (c .before .before .before .before .before .before .before .before .before .before .args .a) (c .before .before .before .before .before .before .before .before .before .before .args .b)

@@ -5,7 +5,6 @@ use Rattle.patterns.proofs.overlaps.Tie as tie
 use Rattle.patterns.proofs.overlaps.Reads as reads
 use Rattle.patterns.proofs.overlaps.Lts as lts
 
--- src/lib.rt:78:1
 returns : tie.Need-returns
 returns c =
     overlap-is (c .before .before .before .before .before .before .before .before .args .a) (c .before .before .before .before .before .before .before .before .args .b)

@@ -1,8 +1,7 @@
 use Rattle.patterns.proofs.Bytes.{quad-same}
 use mathlib.Core.List.{List}
 use lib.Seq.{getD-set-same, getD-set-other}
-use lib.ListN.{length, getD, set, length-set, length-replicate, getD-replicate, List·getD-eq-default}
-use borrow.Author.Needs.{needs}
+use lib.ListN.{length, getD, set, length-set, getD-replicate, List·getD-eq-default}
 use native.Mathlib.Omega.{arith}
 use native.Mathlib.Decide.{ℕ-discrete, decLt}
 use mathlib.Core.Path.{_≡_, refl, sym, _∙_}
@@ -44,42 +43,33 @@ Inv-loop code eight₀ i₀ eight i = (i ≤ length code) × Copied code eight i
 abbrev μ-loop : tie.MeasureT-loop
 μ-loop code eight₀ i₀ eight i = length code - i
 
--- src/lib.rt:29:5
 loop-holds : tie.Need-loop-holds Inv-loop μ-loop
 loop-holds c = (
   omega arith,
   record { long = refl; copied = λ k h. absurd (omega arith); clear = λ k h l. getD-replicate 8 k 0 0 h },
 )
 
--- src/lib.rt:30:20
 shared-slice-read-eight : tie.Need-shared-slice-read-eight Inv-loop μ-loop
 shared-slice-read-eight c = omega arith
 
--- src/lib.rt:30:9
 array-write-eight : tie.Need-array-write-eight Inv-loop μ-loop
 array-write-eight c = omega arith
 
--- src/lib.rt:31:9
 add-i : tie.Need-add-i Inv-loop μ-loop
 add-i c = omega arith
 
--- src/lib.rt:29:5
 loop-less : tie.Need-loop-less Inv-loop μ-loop
 loop-less c = omega arith
 
--- src/lib.rt:29:5
 loop-again : tie.Need-loop-again Inv-loop μ-loop
 loop-again c = (omega arith, copied-more _ _ (c .before .before .loop .i) (omega arith) (c .before .before .loop .inv .1))
 
--- src/lib.rt:33:18
 slice-aggregate-quad : tie.Need-slice-aggregate-quad Inv-loop μ-loop
 slice-aggregate-quad c = sym (c .before .before .loop .inv .1 .long)
 
--- src/lib.rt:33:5
 quad-requires : tie.Need-quad-requires Inv-loop μ-loop
 quad-requires c κs = omega (arith, c .before .before .loop .inv .1 .long)
 
--- src/lib.rt:23:1
 returns : tie.Need-returns Inv-loop μ-loop
 returns c =
     let s : c .before .before .before .loop .i ≡ length (c .before .before .before .before .before .args .code .now) = omega arith in

@@ -7,11 +7,9 @@ use Rattle.patterns.proofs.weight_of.Tie as tie
 use Rattle.patterns.proofs.weight_of.Reads as reads
 use Rattle.patterns.proofs.weight_of.Lts as lts
 
--- src/lib.rt:108:5
 add-result : tie.Need-add-result
 add-result c = omega (arith, ones-le 64 (c .before .before .args .p .mask) (search needs), ones-le 32 (c .before .before .args .p .contextmask) (search needs))
 
--- src/lib.rt:105:1
 returns : tie.Need-returns
 returns c =
     weight-is (c .before .before .args .p)

@@ -12,31 +12,24 @@ use Rattle.printing.proofs.put_decimal.Lts as lts
 use Rattle.printing.proofs.put_bytes.Reads as put-bytes-reads
 use Rattle.printing.proofs.put_digits.Reads as put-digits-reads
 
--- src/lib.rt:126:9
 put-digits-requires : tie.Need-put-digits-requires
 put-digits-requires c κs = (length-replicate {A = ℕ} 23 0, inl refl)
 
--- src/lib.rt:127:15
 sub-put-bytes : tie.Need-sub-put-bytes
 sub-put-bytes c = search needs
 
--- src/lib.rt:127:15
 part-put-bytes-start : tie.Need-part-put-bytes-start
 part-put-bytes-start c = search needs
 
--- src/lib.rt:127:15
 part-put-bytes-end : tie.Need-part-put-bytes-end
 part-put-bytes-end c = search needs
 
--- src/lib.rt:127:5
 put-bytes-requires : tie.Need-put-bytes-requires
 put-bytes-requires c κs = search needs
 
--- src/lib.rt:122:1
 same-length : tie.Need-same-length
 same-length c = search needs
 
--- src/lib.rt:122:1
 returns : tie.Need-returns
 returns c =
     let w = c .before .before .before .before .before .before .put-digits .ensures in

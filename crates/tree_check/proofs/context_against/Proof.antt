@@ -5,19 +5,15 @@ use Rattle.tree_check.proofs.context_against.Reads as reads
 use Rattle.tree_check.proofs.context_against.Lts as lts
 use Rattle.tree_rule.proofs.filled_context.Reads as filled-context-reads
 
--- src/lib.rt:129:9
 filled-context-requires : tie.Need-filled-context-requires
 filled-context-requires c κs = search needs
 
--- src/lib.rt:129:9
 returns : tie.Need-returns
 returns c = rw (c .before .before .if1 .taken) (c .filled-context .ensures)
 
--- src/lib.rt:131:5
 filled-context-requires-2 : tie.Need-filled-context-requires-2
 filled-context-requires-2 c κs = search needs
 
--- src/lib.rt:125:1
 returns-2 : tie.Need-returns-2
 returns-2 c = rw (c .before .if1 .left) (c .filled-context2 .ensures)
 

@@ -1,11 +1,11 @@
 use borrow.Author.Needs.{needs}
 use Rattle.trees.specs.Nodes.{countOf}
 use Rattle.tree_check.proofs.Searching.{shown-is}
-use Prim.Native.Nat.{ℕ, _≤_, _-_}
-use mathlib.Core.Bool.{true, false}
+use Prim.Native.Nat.{_≤_, _-_}
+use mathlib.Core.Bool.{false}
 use mathlib.Core.Path.{_≡_, refl, sym, _∙_}
 use native.Mathlib.Omega.{arith}
-use Rattle.tree_check.proofs.Searching.{shows-is, clear-none, clear-more, none-more}
+use Rattle.tree_check.proofs.Searching.{clear-none, clear-more, none-more}
 use Rattle.tree_form.proofs.Trees.{tree-of, sized, good-counted}
 use Rattle.tree_leaves.proofs.Judging.{tree-says}
 use Rattle.tree_leaves.specs.Path.{pathOf}
@@ -40,67 +40,52 @@ Inv-leaves desc layout table tree count found₀ next₀ found next = (next ≤ 
 abbrev μ-leaves : tie.MeasureT-leaves
 μ-leaves desc layout table tree count found₀ next₀ found next = count - next
 
--- src/lib.rt:80:5
 leaves-holds : tie.Need-leaves-holds Inv-loop μ-loop Inv-leaves μ-leaves
 leaves-holds c = (omega arith, refl, clear-none _ _ _)
 
--- src/lib.rt:82:16
 add-next : tie.Need-add-next Inv-loop μ-loop Inv-leaves μ-leaves
 add-next c = omega arith
 
--- src/lib.rt:83:12
 kind-requires : tie.Need-kind-requires Inv-loop μ-loop Inv-leaves μ-leaves
 kind-requires c κs = omega (arith, c .leaves-test .taken, c .before .before .before .before .pre .nodes, sized (c .before .before .before .before .args .tree .now) (good-counted _ _ (c .before .before .before .before .args .tree .now) (c .before .before .before .before .pre .good)) .bytes)
 
--- src/lib.rt:84:17
 path-to-requires : tie.Need-path-to-requires Inv-loop μ-loop Inv-leaves μ-leaves
 path-to-requires c κs = (c .before .before .before .before .before .before .pre .good, (omega (arith, c .before .before .leaves-test .taken, c .before .before .before .before .before .before .pre .nodes), sym (c .before .kind .ensures) ∙ c .if1 .taken))
 
--- src/lib.rt:85:17
 place-requires : tie.Need-place-requires Inv-loop μ-loop Inv-leaves μ-leaves
 place-requires c κs = omega (arith, c .before .before .before .leaves-test .taken, c .before .before .before .before .before .before .before .pre .nodes, sized (c .before .before .before .before .before .before .before .args .tree .now) (good-counted _ _ (c .before .before .before .before .before .before .before .args .tree .now) (c .before .before .before .before .before .before .before .pre .good)) .bytes)
 
--- src/lib.rt:86:17
 named-by-requires : tie.Need-named-by-requires Inv-loop μ-loop Inv-leaves μ-leaves
 named-by-requires c κs =
     let s = c .before .before .before .before .before .before .before .before .pre in
     (s .room, (s .within, rw (c .place .ensures) (tree-says _ _ _ (tree-of _ _ _ (s .good)) (c .before .before .before .before .before .leaves .next) (omega arith) (omega (arith, c .before .before .before .before .leaves-test .taken, s .nodes)) (sym (c .before .before .before .kind .ensures) ∙ c .before .before .if1 .taken))))
 
--- src/lib.rt:88:13
 loop-holds : tie.Need-loop-holds Inv-loop μ-loop Inv-leaves μ-leaves
 loop-holds c = (omega arith, c .before .before .before .before .before .before .leaves .inv .1, any-none _)
 
--- src/lib.rt:80:5
 leaves-less : tie.Need-leaves-less Inv-loop μ-loop Inv-leaves μ-leaves
 leaves-less c = omega arith
 
--- src/lib.rt:80:5
 leaves-again : tie.Need-leaves-again Inv-loop μ-loop Inv-leaves μ-leaves
 leaves-again c =
     let s : c .before .before .loop .j ≡ c .before .before .before .before .before .before .before .before .before .before .before .before .args .table .count = omega (arith, c .if2 .left) in
     (omega (arith, c .before .before .before .before .before .before .before .before .leaves-test .taken), c .before .before .loop .inv .1, clear-more _ _ _ _ (c .before .before .before .before .before .before .before .before .before .leaves .inv .2) (λ e. rw s at (c .before .before .loop .inv .2)))
 
--- src/lib.rt:89:21
 row-requires : tie.Need-row-requires Inv-loop μ-loop Inv-leaves μ-leaves
 row-requires c κs = (c .before .before .before .before .before .before .before .before .before .before .before .before .pre .room, omega (arith, c .if2 .taken, c .before .before .before .before .before .before .before .before .before .before .before .before .pre .within))
 
--- src/lib.rt:90:43
 add-shows-wrong : tie.Need-add-shows-wrong Inv-loop μ-loop Inv-leaves μ-leaves
 add-shows-wrong c = omega (arith, c .before .before .before .before .before .before .before .before .before .before .before .before .before .before .pre .low, c .before .before .if2 .taken)
 
--- src/lib.rt:90:20
 shows-wrong-requires : tie.Need-shows-wrong-requires Inv-loop μ-loop Inv-leaves μ-leaves
 shows-wrong-requires c κs = search needs
 
--- src/lib.rt:94:17
 add-j : tie.Need-add-j Inv-loop μ-loop Inv-leaves μ-leaves
 add-j c = omega arith
 
--- src/lib.rt:88:13
 loop-less : tie.Need-loop-less Inv-loop μ-loop Inv-leaves μ-leaves
 loop-less c = omega arith
 
--- src/lib.rt:88:13
 loop-again : tie.Need-loop-again Inv-loop μ-loop Inv-leaves μ-leaves
 loop-again c = (
   omega (arith, c .before .before .before .before .if2 .taken),
@@ -109,21 +94,17 @@ loop-again c = (
       (shown-is _ _ _ _ _ _ _ _ _ _ (c .before .before .before .before .before .before .before .before .before .path-to .ensures) (c .before .before .before .before .before .before .before .before .place .ensures) (c .before .before .before .before .before .before .before .named-by .ensures) (c .before .before .before .row .ensures) (c .before .shows-wrong .ensures) ∙ c .if3 .left),
 )
 
--- src/lib.rt:80:5
 leaves-less-2 : tie.Need-leaves-less-2 Inv-loop μ-loop Inv-leaves μ-leaves
 leaves-less-2 c = omega arith
 
--- src/lib.rt:80:5
 leaves-again-2 : tie.Need-leaves-again-2 Inv-loop μ-loop Inv-leaves μ-leaves
 leaves-again-2 c = (omega (arith, c .before .before .leaves-test .taken), c .before .before .before .leaves .inv .1, clear-more _ _ _ _ (c .before .before .before .leaves .inv .2) (λ e. absurd (c .if1 .left (c .before .kind .ensures ∙ e))))
 
--- src/lib.rt:74:1
 returns : tie.Need-returns Inv-loop μ-loop Inv-leaves μ-leaves
 returns c =
     let s : c .before .leaves .next ≡ countOf (c .before .before .before .before .args .tree .now) = omega (arith, c .leaves-test .left, c .before .before .before .before .pre .nodes) in
     rw (c .before .leaves .inv .1) (rw s at (c .before .leaves .inv .2))
 
--- src/lib.rt:74:1
 returns-2 : tie.Need-returns-2 Inv-loop μ-loop Inv-leaves μ-leaves
 returns-2 c =
     record {

@@ -1,7 +1,6 @@
 use Rattle.tree_check.proofs.Verdicts.{accepted, rejected}
 use Rattle.tree_check.specs.Search.{FirstWrong}
 use Rattle.tree_form.proofs.Trees.{sized, good-counted}
-use mathlib.Core.Path.{_≡_, refl, sym, _∙_}
 use native.Mathlib.Omega.{arith}
 use borrow.Author.Needs.{needs}
 use Rattle.tree_check.proofs.judge.Statement.{statement}
@@ -15,57 +14,46 @@ use Rattle.tree_check.proofs.path_to.Reads as path-to-reads
 use Rattle.tree_check.proofs.word_against.Reads as word-against-reads
 use Rattle.tree_form.proofs.place.Reads as place-reads
 
--- src/lib.rt:140:9
 first-wrong-requires : tie.Need-first-wrong-requires
 first-wrong-requires c κs = search needs
 
--- src/lib.rt:142:27
 enum-told : tie.Need-enum-told
 enum-told c = search needs
 
--- src/lib.rt:143:19
 enum-known-found : tie.Need-enum-known-found
 enum-known-found c = search needs
 
--- src/lib.rt:144:17
 path-to-requires : tie.Need-path-to-requires
 path-to-requires c κs =
     let w : FirstWrong _ _ _ _ _ = rw (c .before .found .given .1) at (c .before .before .before .first-wrong .ensures) in
     (c .before .before .before .before .before .before .pre .1 .good, (w .here, w .leaf))
 
--- src/lib.rt:145:17
 place-requires : tie.Need-place-requires
 place-requires c κs =
     let w : FirstWrong _ _ _ _ _ = rw (c .before .before .found .given .1) at (c .before .before .before .before .first-wrong .ensures) in
     omega (arith, w .here, sized (c .before .before .before .before .before .before .before .args .tree .now) (good-counted _ _ (c .before .before .before .before .before .before .before .args .tree .now) (c .before .before .before .before .before .before .before .pre .1 .good)) .bytes)
 
--- src/lib.rt:146:17
 row-requires : tie.Need-row-requires
 row-requires c κs =
     let w : FirstWrong _ _ _ _ _ = rw (c .before .before .before .found .given .1) at (c .before .before .before .before .before .first-wrong .ensures) in
     (c .before .before .before .before .before .before .before .before .pre .1 .room, omega (arith, w .by, c .before .before .before .before .before .before .before .before .pre .1 .within))
 
--- src/lib.rt:147:23
 add-own : tie.Need-add-own
 add-own c =
     let w : FirstWrong _ _ _ _ _ = rw (c .before .before .before .before .before .found .given .1) at (c .before .before .before .before .before .before .before .first-wrong .ensures) in
     omega (arith, w .by, c .before .before .before .before .before .before .before .before .before .before .pre .1 .low)
 
--- src/lib.rt:150:23
 word-against-requires : tie.Need-word-against-requires
 word-against-requires c κs = search needs
 
--- src/lib.rt:151:26
 context-against-requires : tie.Need-context-against-requires
 context-against-requires c κs = search needs
 
--- src/lib.rt:135:1
 returns : tie.Need-returns
 returns c =
     let s = c .before .before .before .before .before in
     accepted (s .args .desc .now) _ (λ i. omega (arith, c .before .before .before .before .shared-slice-known .given i)) (s .pre .0) _ _ _ (s .pre .1) (rw (c .enum-told .given .1) at (c .before .before .first-wrong .ensures))
 
--- src/lib.rt:135:1
 returns-2 : tie.Need-returns-2
 returns-2 c =
     let s = c .before .before .before .before .before .before .before .before .before .before .before .before in

@@ -7,21 +7,17 @@ use Rattle.tree_check.proofs.named_by.Reads as reads
 use Rattle.tree_check.proofs.named_by.Lts as lts
 use Rattle.choosing.proofs.row.Reads as row-reads
 
--- src/lib.rt:56:9
 returns : tie.Need-returns
 returns c = λ x. absurd (x (c .if1 .taken))
 
--- src/lib.rt:63:46
 sub-row : tie.Need-sub-row
 sub-row c = ⊎-elim (λ e. absurd (c .before .if1 .left e)) (λ r. r .0) (c .before .before .before .pre .1 .1)
 
--- src/lib.rt:63:5
 row-requires : tie.Need-row-requires
 row-requires c κs =
     let s = c .before .before .before in
     (s .pre .0, ⊎-elim (λ e. absurd (c .before .if1 .left e)) (λ r. omega (arith, r .0, r .1, s .pre .1 .0)) (s .pre .1 .1))
 
--- src/lib.rt:49:1
 returns-2 : tie.Need-returns-2
 returns-2 c = search needs
 

@@ -16,67 +16,55 @@ Inv-loop tree leaf p₀ t₀ p t = Standing tree leaf p t
 abbrev μ-loop : tie.MeasureT-loop
 μ-loop tree leaf p₀ t₀ p t = leaf - t
 
--- src/lib.rt:33:5
 loop-holds : tie.Need-loop-holds Inv-loop μ-loop
 loop-holds c = stand-first _ _ _ _ (c .before .pre .0) (c .before .pre .1 .0) (c .before .pre .1 .1)
 
--- src/lib.rt:34:13
 kind-requires : tie.Need-kind-requires Inv-loop μ-loop
 kind-requires c κs =
     let q = stand-test _ _ _ _ (c .before .loop .inv) (c .loop-test .taken) in
     omega (arith, q .here, c .before .loop .inv .bytes)
 
--- src/lib.rt:35:13
 bit-requires : tie.Need-bit-requires Inv-loop μ-loop
 bit-requires c κs =
     let q = stand-test _ _ _ _ (c .before .before .loop .inv) (c .before .loop-test .taken) in
     omega (arith, q .here, c .before .before .loop .inv .bytes)
 
--- src/lib.rt:36:13
 place-requires : tie.Need-place-requires Inv-loop μ-loop
 place-requires c κs =
     let q = stand-test _ _ _ _ (c .before .before .before .loop .inv) (c .before .before .loop-test .taken) in
     omega (arith, q .here, c .before .before .before .loop .inv .bytes)
 
--- src/lib.rt:38:13
 side-of-requires : tie.Need-side-of-requires Inv-loop μ-loop
 side-of-requires c κs =
     let q = stand-test _ _ _ _ (c .before .before .before .before .before .loop .inv) (c .before .before .before .before .loop-test .taken) in
     rw (c .before .before .bit .ensures, c .before .before .before .kind .ensures) (q .low, q .narrow, omega arith)
 
--- src/lib.rt:39:13
 add-t : tie.Need-add-t Inv-loop μ-loop
 add-t c = omega arith
 
--- src/lib.rt:33:5
 loop-less : tie.Need-loop-less Inv-loop μ-loop
 loop-less c = omega arith
 
--- src/lib.rt:33:5
 loop-again : tie.Need-loop-again Inv-loop μ-loop
 loop-again c =
     rw (c .side-of .ensures, c .before .before .before .before .kind .ensures, c .before .before .before .bit .ensures)
     (stand-zero _ _ _ _ (c .before .before .before .before .before .before .loop .inv) (c .before .before .before .before .before .loop-test .taken) (rw (c .before .before .place .ensures) at (c .before .if1 .taken)))
 
--- src/lib.rt:41:13
 side-of-requires-2 : tie.Need-side-of-requires-2 Inv-loop μ-loop
 side-of-requires-2 c κs =
     let q = stand-test _ _ _ _ (c .before .before .before .before .before .loop .inv) (c .before .before .before .before .loop-test .taken) in
     rw (c .before .before .bit .ensures, c .before .before .before .kind .ensures) (q .low, q .narrow, omega arith)
 
--- src/lib.rt:33:5
 loop-less-2 : tie.Need-loop-less-2 Inv-loop μ-loop
 loop-less-2 c =
     let q = stand-test _ _ _ _ (c .before .before .before .before .before .before .loop .inv) (c .before .before .before .before .before .loop-test .taken) in
     omega (arith, q .ahead, c .before .before .place .ensures)
 
--- src/lib.rt:33:5
 loop-again-2 : tie.Need-loop-again-2 Inv-loop μ-loop
 loop-again-2 c =
     rw (c .side-of2 .ensures, c .before .before .before .before .kind .ensures, c .before .before .before .bit .ensures, c .before .before .place .ensures)
     (stand-one _ _ _ _ (c .before .before .before .before .before .before .loop .inv) (c .before .before .before .before .before .loop-test .taken) (rw (c .before .before .place .ensures) at (c .before .if1 .left)))
 
--- src/lib.rt:20:1
 returns : tie.Need-returns Inv-loop μ-loop
 returns c = stand-done _ _ _ _ (c .before .loop .inv) (c .loop-test .left)
 

@@ -1,4 +1,4 @@
-use mathlib.Core.Path.{_≡_, refl, sym, _∙_}
+use mathlib.Core.Path.{sym, _∙_}
 use Rattle.format.proofs.Formation.{formed}
 use borrow.Author.Needs.{needs}
 use Rattle.tree_check.proofs.tree_check.Statement.{statement}
@@ -8,27 +8,21 @@ use Rattle.tree_check.proofs.tree_check.Lts as lts
 use Rattle.description.proofs.check.Reads as check-reads
 use Rattle.tree_check.proofs.tree_in.Reads as tree-in-reads
 
--- src/lib.rt:200:9
 check-requires : tie.Need-check-requires
 check-requires c κs = search needs
 
--- src/lib.rt:202:23
 enum-known-checked : tie.Need-enum-known-checked
 enum-known-checked c = search needs
 
--- src/lib.rt:202:34
 tree-in-requires : tie.Need-tree-in-requires
 tree-in-requires c κs = formed _ _ (sym (c .before .before .before .check .ensures) ∙ c .before .checked .given .1)
 
--- src/lib.rt:203:26
 enum-known-checked-2 : tie.Need-enum-known-checked-2
 enum-known-checked-2 c = search needs
 
--- src/lib.rt:197:1
 returns : tie.Need-returns
 returns c = rw (sym (c .before .before .before .before .check .ensures) ∙ c .before .before .checked .given .1) (c .tree-in .ensures)
 
--- src/lib.rt:197:1
 returns-2 : tie.Need-returns-2
 returns-2 c = rw (sym (c .before .before .before .check .ensures) ∙ c .before .checked2 .given .1)
 

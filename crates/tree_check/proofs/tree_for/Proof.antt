@@ -1,5 +1,5 @@
 use Rattle.tree_form.proofs.Trees.{sized, good-counted}
-use mathlib.Core.Path.{_≡_, refl, sym, _∙_}
+use mathlib.Core.Path.{sym, _∙_}
 use native.Mathlib.Omega.{arith}
 use borrow.Author.Needs.{needs}
 use Rattle.tree_check.proofs.tree_for.Statement.{statement}
@@ -10,28 +10,22 @@ use Rattle.format.proofs.word.Reads as word-reads
 use Rattle.tree_check.proofs.judge.Reads as judge-reads
 use Rattle.tree_form.proofs.form.Reads as form-reads
 
--- src/lib.rt:163:9
 form-requires : tie.Need-form-requires
 form-requires c κs = search needs
 
--- src/lib.rt:165:19
 enum-known-form : tie.Need-enum-known-form
 enum-known-form c = search needs
 
--- src/lib.rt:167:25
 enum-told : tie.Need-enum-told
 enum-told c = search needs
 
--- src/lib.rt:167:25
 word-requires : tie.Need-word-requires
 word-requires c κs =
     omega (arith, sized (c .before .before .before .before .before .args .tree .now) (good-counted _ _ (c .before .before .before .before .before .args .tree .now) (sym (c .before .before .form .ensures) ∙ c .enum-told .given .1)) .bytes)
 
--- src/lib.rt:167:25
 cast-count : tie.Need-cast-count
 cast-count c = search needs
 
--- src/lib.rt:168:17
 judge-requires : tie.Need-judge-requires
 judge-requires c κs =
     let s = c .before .before .before .before .before .before in (
@@ -45,23 +39,18 @@ judge-requires c κs =
       },
     )
 
--- src/lib.rt:170:38
 enum-told-2 : tie.Need-enum-told-2
 enum-told-2 c = search needs
 
--- src/lib.rt:172:21
 enum-known-verdict : tie.Need-enum-known-verdict
 enum-known-verdict c = search needs
 
--- src/lib.rt:158:1
 returns : tie.Need-returns
 returns c = rw (sym (c .before .before .before .form .ensures) ∙ c .before .form2 .given .1)
 
--- src/lib.rt:158:1
 returns-2 : tie.Need-returns-2
 returns-2 c = rw (sym (c .before .before .before .before .before .before .form .ensures) ∙ c .before .before .before .before .enum-told .given .1) (c .before .before .judge .result, rw (c .enum-told2 .given .1), c .before .before .judge .ensures)
 
--- src/lib.rt:158:1
 returns-3 : tie.Need-returns-3
 returns-3 c = rw (sym (c .before .before .before .before .before .before .before .form .ensures) ∙ c .before .before .before .before .before .enum-told .given .1) (c .before .before .before .judge .result, rw (c .before .verdict .given .1), c .before .before .before .judge .ensures)
 

@@ -1,4 +1,3 @@
-use mathlib.Core.Path.{_≡_, refl, sym, _∙_}
 use Rattle.format.proofs.Formation.{obeyed}
 use Rattle.format.proofs.Lists.{constructors-length}
 use Rattle.tables.proofs.Range.{absent, there, in-section}
@@ -10,19 +9,15 @@ use Rattle.tree_check.proofs.tree_in.Lts as lts
 use Rattle.tables.proofs.table_of.Reads as table-of-reads
 use Rattle.tree_check.proofs.tree_for.Reads as tree-for-reads
 
--- src/lib.rt:189:9
 table-of-requires : tie.Need-table-of-requires
 table-of-requires c κs = search needs
 
--- src/lib.rt:191:9
 returns : tie.Need-returns
 returns c = rw (absent _ (obeyed _ _ (c .before .before .before .before .before .pre)) _ _ _ (c .before .before .table-of .ensures .0) (c .before .before .table-of .ensures .1) (c .if1 .taken))
 
--- src/lib.rt:193:5
 tree-for-requires : tie.Need-tree-for-requires
 tree-for-requires c κs = (c .before .before .before .before .before .pre, rw constructors-length at (in-section _ (obeyed _ _ (c .before .before .before .before .before .pre)) _ _ _ (c .before .before .table-of .ensures .0) (c .before .before .table-of .ensures .1)))
 
--- src/lib.rt:185:1
 returns-2 : tie.Need-returns-2
 returns-2 c =
     rw (there _ (obeyed _ _ (c .before .before .before .before .before .before .pre)) _ _ _ (c .before .before .before .table-of .ensures .0) (c .before .before .before .table-of .ensures .1) (c .before .if1 .left))

@@ -5,19 +5,15 @@ use Rattle.tree_check.proofs.word_against.Reads as reads
 use Rattle.tree_check.proofs.word_against.Lts as lts
 use Rattle.tree_rule.proofs.filled_word.Reads as filled-word-reads
 
--- src/lib.rt:119:9
 filled-word-requires : tie.Need-filled-word-requires
 filled-word-requires c κs = search needs
 
--- src/lib.rt:119:9
 returns : tie.Need-returns
 returns c = rw (c .before .before .if1 .taken) (c .filled-word .ensures)
 
--- src/lib.rt:121:5
 filled-word-requires-2 : tie.Need-filled-word-requires-2
 filled-word-requires-2 c κs = search needs
 
--- src/lib.rt:115:1
 returns-2 : tie.Need-returns-2
 returns-2 c = rw (c .before .if1 .left) (c .filled-word2 .ensures)
 

@@ -1,0 +1,2 @@
+-- The words that the theorems use.
+pub mod Continuing
