@@ -43,8 +43,11 @@ pub enum End {
 
 /// A description in the form that is walked.
 pub struct Scan {
-    /// Apart from the constructors, since a scan reads nothing else.
-    patterns: Vec<Pattern>,
+    /// The constructors' patterns as words, each sort apart: a scan reads little
+    /// else than masks and values of bytes. No value has a bit outside its mask.
+    masks: Vec<u64>,
+    values: Vec<u64>,
+    contexts: Vec<[u32; 2]>,
     constructors: Vec<Constructor>,
     operands: Vec<Operand>,
     fields: Vec<Field>,
@@ -52,6 +55,13 @@ pub struct Scan {
     /// Where each table's constructors start; the next one's start is its end.
     firsts: [usize; TABLES + 1],
     root: u8,
+}
+
+/// The patterns of a table.
+struct Patterns<'a> {
+    masks: &'a [u64],
+    values: &'a [u64],
+    contexts: &'a [[u32; 2]],
 }
 
 /// What a walk does with its rows.
@@ -88,8 +98,12 @@ impl Scan {
             d.constructors
                 .partition_point(|c| usize::from(c.table) < table)
         };
+        let patterns = || d.constructors.iter().map(|c| &c.pattern);
+        let contexts = |pattern: &Pattern| [pattern.context_mask, pattern.context_value];
         Scan {
-            patterns: d.constructors.iter().map(|c| c.pattern).collect(),
+            masks: patterns().map(|pattern| pattern.byte_mask).collect(),
+            values: patterns().map(|pattern| pattern.byte_value).collect(),
+            contexts: patterns().map(contexts).collect(),
             constructors: d.constructors.clone(),
             operands: d.operands.clone(),
             fields: d.fields.clone(),
@@ -195,26 +209,24 @@ impl Scan {
     #[inline(always)]
     fn choose(&self, context: u32, code: &[u8], table: u8, start: usize) -> Result<usize, Refusal> {
         let first = self.firsts[usize::from(table)];
-        let patterns = &self.patterns[first..self.firsts[usize::from(table) + 1]];
+        let records = first..self.firsts[usize::from(table) + 1];
+        let patterns = Patterns {
+            masks: &self.masks[records.clone()],
+            values: &self.values[records.clone()],
+            contexts: &self.contexts[records],
+        };
         let code = code.get(start..).unwrap_or_default();
         let mut matching = Matching::default();
-        if let Some(bytes) = code.first_chunk() {
-            let bytes = u64::from_le_bytes(*bytes);
-            for (i, pattern) in patterns.iter().enumerate() {
-                if agrees(pattern, context, bytes, u64::MAX) {
-                    matching.add(i, pattern);
-                }
+        let eight = code.first_chunk().copied().map(u64::from_le_bytes);
+        let short = match eight {
+            Some(bytes) => matching.add_all(patterns, context, bytes, u64::MAX),
+            None => {
+                let (bytes, present) = few_bytes(code);
+                matching.add_all(patterns, context, bytes, present)
             }
-        } else {
-            let (bytes, present) = few_bytes(code);
-            for (i, pattern) in patterns.iter().enumerate() {
-                if agrees(pattern, context, bytes, present) {
-                    if pattern.byte_mask & !present != 0 {
-                        return Err(refusal(SHORT, start));
-                    }
-                    matching.add(i, pattern);
-                }
-            }
+        };
+        if short {
+            return Err(refusal(SHORT, start));
         }
         let number = match matching.innermost {
             1 => return Ok(first + matching.taken),
@@ -273,14 +285,6 @@ impl<R> Walk<'_, R> {
     }
 }
 
-/// Every masked bit of the context and of the bytes present has its value.
-#[inline(always)]
-fn agrees(pattern: &Pattern, context: u32, bytes: u64, present: u64) -> bool {
-    let bytes = (bytes ^ pattern.byte_value) & pattern.byte_mask & present;
-    let context = (context ^ pattern.context_value) & pattern.context_mask;
-    bytes | u64::from(context) == 0
-}
-
 /// Fewer than eight bytes, and a mask of those.
 fn few_bytes(code: &[u8]) -> (u64, u64) {
     let mut bytes = [0; 8];
@@ -301,14 +305,38 @@ struct Matching {
 }
 
 impl Matching {
+    /// Adds the patterns that match, unless one is short; tells whether one is.
+    /// Most don't agree in their bytes, so these are looked at alone at first.
     #[inline(always)]
-    fn add(&mut self, place: usize, pattern: &Pattern) {
-        let bytes = self.byte_mask | pattern.byte_mask;
-        let context = self.context_mask | pattern.context_mask;
+    fn add_all(&mut self, patterns: Patterns, context: u32, bytes: u64, present: u64) -> bool {
+        let Patterns {
+            masks,
+            values,
+            contexts,
+        } = patterns;
+        for place in 0..masks.len() {
+            if bytes & masks[place] != values[place] & present {
+                continue;
+            }
+            let [context_mask, context_value] = contexts[place];
+            if context & context_mask == context_value {
+                if masks[place] & !present != 0 {
+                    return true;
+                }
+                self.add(place, masks[place], context_mask);
+            }
+        }
+        false
+    }
+
+    #[inline(always)]
+    fn add(&mut self, place: usize, byte_mask: u64, context_mask: u32) {
+        let bytes = self.byte_mask | byte_mask;
+        let context = self.context_mask | context_mask;
         if !self.any || bytes != self.byte_mask || context != self.context_mask {
             self.innermost = 0;
         }
-        if bytes == pattern.byte_mask && context == pattern.context_mask {
+        if bytes == byte_mask && context == context_mask {
             self.innermost += 1;
             self.taken = place;
         }
