@@ -24,7 +24,7 @@ enum dookerand_answer {
     DOOKERAND_MALFORMED = 1,         /* the description is not well formed */
     DOOKERAND_SHORT = 2,             /* the code ends too early */
     DOOKERAND_NO_MATCH = 3,          /* no constructor of a table matches */
-    DOOKERAND_AMBIGUOUS = 4,         /* none of the matching constructors is to be taken */
+    DOOKERAND_AMBIGUOUS = 4,         /* no single matching constructor lies inside all others */
     DOOKERAND_HOLE = 5,              /* a field's value has no name */
     DOOKERAND_TOO_FAR = 6,           /* a position is above 16 */
     DOOKERAND_TOO_MANY_ROWS = 7,     /* a 33rd row is needed */

@@ -31,41 +31,39 @@ struct Case {
 /// The proved request, the check that it begins with, and the scan's.
 type Jobs<'a> = [Box<dyn Fn(usize) + 'a>; 3];
 
+type Request = fn(&Case) -> Jobs<'_>;
+
+const REQUESTS: [(&str, Request); 2] = [("sweep", Case::sweep), ("decode", Case::decode)];
+
+const NOTE: &str = "\
+The scan is a plain Rust loop over all constructors of a table, on a description that is parsed
+beforehand; \"unchecked\" is the proved call less the check that it begins with. Both gave the
+same rows for all of this code.";
+
 pub fn print() {
     let cases = cases();
     cases.iter().for_each(Case::answers_alike);
-    let names = |request| cases.iter().map(move |case| (request, case));
-    let names: Vec<_> = names("sweep").chain(names("decode")).collect();
-    let jobs: Vec<_> = names
-        .iter()
-        .map(|(request, case)| match *request {
-            "sweep" => case.sweep(),
-            _ => case.decode(),
-        })
-        .collect();
-    println!("                              CPU, us                      ratio           wall, us");
-    println!("request   description          proved   unchecked      scan   proved  unchecked    proved      scan");
-    for ((request, case), [proved, check, scan]) in names.iter().zip(medians_of(&jobs)) {
-        let unchecked = proved - check;
-        println!(
-            "{request:10}{:16}{:>11.3}{:>12.3}{:>10.3}{:>9.2}{:>11.2}{:>10.3}{:>10.3}",
-            case.name,
-            proved.cpu,
-            unchecked.cpu,
-            scan.cpu,
-            proved.cpu / scan.cpu,
-            unchecked.cpu / scan.cpu,
-            proved.wall,
-            scan.wall,
-        );
+    let (mut names, mut jobs) = (Vec::new(), Vec::new());
+    for (request, of) in REQUESTS {
+        for case in &cases {
+            names.push((request, case.name));
+            jobs.push(of(case));
+        }
     }
     println!(
-        "The scan is a plain Rust loop over each constructor of a table, on a description that is"
+        "                         CPU, us                         CPU ratio to scan   wall, us"
     );
-    println!("parsed beforehand; \"unchecked\" is the proved call less the check that it begins with. Both");
-    println!(
-        "gave the same rows for all of this code. A sweep takes {CODE} bytes, a decoding another"
-    );
+    print!("request   description        proved  unchecked      scan");
+    println!("   proved  unchecked    proved      scan");
+    for ((request, name), [proved, check, scan]) in names.into_iter().zip(medians_of(&jobs)) {
+        let unchecked = proved - check;
+        let [ratio, unchecked_ratio] = [proved, unchecked].map(|time| time.cpu / scan.cpu);
+        print!("{request:10}{name:15}{:>10.3}", proved.cpu);
+        print!("{:>11.3}{:>10.3}", unchecked.cpu, scan.cpu);
+        print!("{ratio:>9.2}{unchecked_ratio:>11.2}");
+        println!("{:>10.3}{:>10.3}", proved.wall, scan.wall);
+    }
+    println!("{NOTE} A sweep takes {CODE} bytes, a decoding another");
     println!("instruction at each call.");
 }
 
