@@ -24,20 +24,23 @@ const COMPARED: usize = 2_000;
 struct Case {
     name: &'static str,
     set: Set,
-    scan: Scan,
+    plain: Scan<1>,
+    by_fours: Scan<4>,
     context: u32,
 }
 
-/// The proved request, the check that it begins with, and the scan's.
-type Jobs<'a> = [Box<dyn Fn(usize) + 'a>; 3];
+/// The proved request, the check that it begins with, and both scans'.
+type Jobs<'a> = [Job<'a>; 4];
+type Job<'a> = Box<dyn Fn(usize) + 'a>;
 
 type Request = fn(&Case) -> Jobs<'_>;
 
 const REQUESTS: [(&str, Request); 2] = [("sweep", Case::sweep), ("decode", Case::decode)];
 
 const NOTE: &str = "\
-The scan is a plain Rust loop over all constructors of a table, on a description that is parsed
-beforehand; \"unchecked\" is the proved call less the check that it begins with. Both gave the
+The plain scan is a Rust loop over all constructors of a table, one after the other, that by fours
+the same with four at a time, both on a description that is parsed beforehand. Ratios are of
+processor time, of the proved call to a scan, and less the check that it begins with. All gave the
 same rows for all of this code.";
 
 pub fn print() {
@@ -50,21 +53,27 @@ pub fn print() {
             jobs.push(of(case));
         }
     }
-    println!(
-        "                         CPU, us                         CPU ratio to scan   wall, us"
-    );
-    print!("request   description        proved  unchecked      scan");
-    println!("   proved  unchecked    proved      scan");
-    for ((request, name), [proved, check, scan]) in names.into_iter().zip(medians_of(&jobs)) {
-        let unchecked = proved - check;
-        let [ratio, unchecked_ratio] = [proved, unchecked].map(|time| time.cpu / scan.cpu);
-        print!("{request:10}{name:15}{:>10.3}", proved.cpu);
-        print!("{:>11.3}{:>10.3}", unchecked.cpu, scan.cpu);
-        print!("{ratio:>9.2}{unchecked_ratio:>11.2}");
-        println!("{:>10.3}{:>10.3}", proved.wall, scan.wall);
+    print!("                         CPU, us                      ");
+    println!("to plain         to fours         wall, us");
+    print!("request   description       proved     plain     fours");
+    println!("   whole    less   whole    less    proved     plain     fours");
+    for ((request, name), [proved, check, plain, fours]) in names.into_iter().zip(medians_of(&jobs))
+    {
+        print!("{request:10}{name:15}");
+        for time in [proved, plain, fours] {
+            print!("{:>10.3}", time.cpu);
+        }
+        for scan in [plain, fours] {
+            let less = proved - check;
+            print!("{:>8.2}{:>8.2}", proved.cpu / scan.cpu, less.cpu / scan.cpu);
+        }
+        for time in [proved, plain, fours] {
+            print!("{:>10.3}", time.wall);
+        }
+        println!();
     }
-    println!("{NOTE} A sweep takes {CODE} bytes, a decoding another");
-    println!("instruction at each call.");
+    println!("{NOTE} A sweep takes {CODE} bytes, a decoding another instruction");
+    println!("at each call.");
 }
 
 /// S, AVR, tables of 200 and 512 constructors, and 200 constructors in three
@@ -96,7 +105,8 @@ fn case(
 ) -> Case {
     Case {
         name,
-        scan: Scan::new(&description),
+        plain: Scan::new(&description),
+        by_fours: Scan::new(&description),
         set: Set::of(description, stream),
         context,
     }
@@ -107,11 +117,16 @@ impl Case {
         &self.set.code(0)[..CODE]
     }
 
-    /// Stops unless the proved library and the scan give the same.
+    /// Stops unless the proved library and the scans give the same.
     fn answers_alike(&self) {
+        self.scans_alike(&self.plain);
+        self.scans_alike(&self.by_fours);
+    }
+
+    fn scans_alike<const GROUP: usize>(&self, scan: &Scan<GROUP>) {
         let [mut proved, mut scanned] = [(); 2].map(|()| vec![0; ROW_NUMBERS * CODE]);
         let answer = dookerand::sweep(&self.set.bytes, self.context, self.code(), &mut proved);
-        let (end, rows, next) = self.scan.sweep(self.context, self.code(), &mut scanned);
+        let (end, rows, next) = scan.sweep(self.context, self.code(), &mut scanned);
         let found = (0, [end as u64, rows as u64, next as u64, 0]);
         assert_eq!((answer.number, answer.values), found, "{}", self.name);
         assert!(proved == scanned, "{}: other rows", self.name);
@@ -119,7 +134,7 @@ impl Case {
             let code = self.set.code(call);
             let [mut proved, mut scanned] = [[0; ROOM]; 2];
             let answer = dookerand::decode(&self.set.bytes, self.context, code, &mut proved);
-            let rows = self.scan.decode(self.context, code, &mut scanned);
+            let rows = scan.decode(self.context, code, &mut scanned);
             assert_eq!(answer.number, 0, "{}", self.name);
             assert_eq!(rows, Ok(answer.values[0] as usize), "{}", self.name);
             assert_eq!(proved, scanned, "{}", self.name);
@@ -127,40 +142,54 @@ impl Case {
     }
 
     fn sweep(&self) -> Jobs<'_> {
-        let [lent, scan_lent] = [(); 2].map(|()| RefCell::new(vec![0; ROW_NUMBERS * CODE]));
-        let code = self.code();
-        [
-            Box::new(move |_| {
-                let rows = &mut *black_box(lent.borrow_mut());
-                let bytes = black_box(&self.set.bytes);
-                let answer = dookerand::sweep(bytes, self.context, black_box(code), rows);
-                assert_eq!(black_box(answer).number, 0);
-            }),
-            Box::new(|_| proved_check(&self.set.bytes)),
-            Box::new(move |_| {
-                let rows = &mut *black_box(scan_lent.borrow_mut());
-                let swept = black_box(&self.scan).sweep(self.context, black_box(code), rows);
-                assert!(black_box(swept).1 > 0);
-            }),
-        ]
+        let lent = RefCell::new(vec![0; ROW_NUMBERS * CODE]);
+        let proved = move |_| {
+            let rows = &mut *black_box(lent.borrow_mut());
+            let (bytes, code) = (black_box(&self.set.bytes), black_box(self.code()));
+            let answer = dookerand::sweep(bytes, self.context, code, rows);
+            assert_eq!(black_box(answer).number, 0);
+        };
+        let scans = (
+            self.scan_sweep(&self.plain),
+            self.scan_sweep(&self.by_fours),
+        );
+        [Box::new(proved), self.check(), scans.0, scans.1]
+    }
+
+    fn scan_sweep<'a, const GROUP: usize>(&'a self, scan: &'a Scan<GROUP>) -> Job<'a> {
+        let lent = RefCell::new(vec![0; ROW_NUMBERS * CODE]);
+        Box::new(move |_| {
+            let rows = &mut *black_box(lent.borrow_mut());
+            let swept = black_box(scan).sweep(self.context, black_box(self.code()), rows);
+            assert!(black_box(swept).1 > 0);
+        })
     }
 
     fn decode(&self) -> Jobs<'_> {
-        let [lent, scan_lent] = [(); 2].map(|()| RefCell::new([0; ROOM]));
-        [
-            Box::new(move |call| {
-                let rows = &mut *black_box(lent.borrow_mut());
-                let bytes = black_box(&self.set.bytes);
-                let answer = dookerand::decode(bytes, self.context, self.set.code(call), rows);
-                assert_eq!(black_box(answer).number, 0);
-            }),
-            Box::new(|_| proved_check(&self.set.bytes)),
-            Box::new(move |call| {
-                let rows = &mut *black_box(scan_lent.borrow_mut());
-                let scan = black_box(&self.scan);
-                let decoded = scan.decode(self.context, self.set.code(call), rows);
-                assert!(black_box(decoded).is_ok());
-            }),
-        ]
+        let lent = RefCell::new([0; ROOM]);
+        let proved = move |call| {
+            let rows = &mut *black_box(lent.borrow_mut());
+            let bytes = black_box(&self.set.bytes);
+            let answer = dookerand::decode(bytes, self.context, self.set.code(call), rows);
+            assert_eq!(black_box(answer).number, 0);
+        };
+        let scans = (
+            self.scan_decode(&self.plain),
+            self.scan_decode(&self.by_fours),
+        );
+        [Box::new(proved), self.check(), scans.0, scans.1]
+    }
+
+    fn scan_decode<'a, const GROUP: usize>(&'a self, scan: &'a Scan<GROUP>) -> Job<'a> {
+        let lent = RefCell::new([0; ROOM]);
+        Box::new(move |call| {
+            let rows = &mut *black_box(lent.borrow_mut());
+            let decoded = black_box(scan).decode(self.context, self.set.code(call), rows);
+            assert!(black_box(decoded).is_ok());
+        })
+    }
+
+    fn check(&self) -> Job<'_> {
+        Box::new(|_| proved_check(&self.set.bytes))
     }
 }

@@ -41,7 +41,7 @@ pub fn print() {
         let swept = reference::sweep(black_box(&d), CONTEXT, black_box(&code), instructions);
         assert_eq!(black_box(swept).rows.len(), instructions);
     };
-    let scan = Scan::new(&d);
+    let scan = Scan::<4>::new(&d);
     let scan_lent = RefCell::new(vec![0; ROW_NUMBERS * instructions]);
     let scan_sweep = |_| {
         let rows = &mut *black_box(scan_lent.borrow_mut());
@@ -84,7 +84,7 @@ pub fn print() {
     println!("                           CPU, ms  wall, ms  MB/s CPU  writes");
     line("proved sweep", times[0], "rows");
     line("reference sweep", times[1], "rows");
-    line("scan sweep", times[2], "rows");
+    line("scan sweep, by fours", times[2], "rows");
     let by_calls = "rows, then each text by a call, which checks the description";
     line("proved sweep and texts", times[3], by_calls);
     let without_checks = times[3] - times[4].times(CHECKS);

@@ -2,7 +2,11 @@
 //! constructor of a table by whole words, makes nothing on the heap, and
 //! answers as the rules say. What the proved library is measured by.
 
-use reference::{Constructor, Description, Field, Operand, Pattern};
+mod choose;
+
+use reference::{Constructor, Description, Field, Operand};
+
+use choose::{Choice, Patterns};
 
 /// The most tables, operands of a constructor, rows and bytes of an
 /// instruction.
@@ -41,13 +45,11 @@ pub enum End {
     Short,
 }
 
-/// A description in the form that is walked.
-pub struct Scan {
-    /// The constructors' patterns as words, each sort apart: a scan reads little
-    /// else than masks and values of bytes. No value has a bit outside its mask.
-    masks: Vec<u64>,
-    values: Vec<u64>,
-    contexts: Vec<[u32; 2]>,
+/// A description in the form that is walked. So many patterns are looked at
+/// before it branches: 1 is the plain loop, and with more the compiler can use
+/// wider registers.
+pub struct Scan<const GROUP: usize> {
+    patterns: Patterns,
     constructors: Vec<Constructor>,
     operands: Vec<Operand>,
     fields: Vec<Field>,
@@ -55,13 +57,6 @@ pub struct Scan {
     /// Where each table's constructors start; the next one's start is its end.
     firsts: [usize; TABLES + 1],
     root: u8,
-}
-
-/// The patterns of a table.
-struct Patterns<'a> {
-    masks: &'a [u64],
-    values: &'a [u64],
-    contexts: &'a [[u32; 2]],
 }
 
 /// What a walk does with its rows.
@@ -91,19 +86,15 @@ struct Walk<'a, R> {
     rows: &'a mut R,
 }
 
-impl Scan {
+impl<const GROUP: usize> Scan<GROUP> {
     /// Of a description that is well formed.
-    pub fn new(d: &Description) -> Scan {
+    pub fn new(d: &Description) -> Scan<GROUP> {
         let first = |table: usize| {
             d.constructors
                 .partition_point(|c| usize::from(c.table) < table)
         };
-        let patterns = || d.constructors.iter().map(|c| &c.pattern);
-        let contexts = |pattern: &Pattern| [pattern.context_mask, pattern.context_value];
         Scan {
-            masks: patterns().map(|pattern| pattern.byte_mask).collect(),
-            values: patterns().map(|pattern| pattern.byte_value).collect(),
-            contexts: patterns().map(contexts).collect(),
+            patterns: Patterns::new(d),
             constructors: d.constructors.clone(),
             operands: d.operands.clone(),
             fields: d.fields.clone(),
@@ -208,30 +199,13 @@ impl Scan {
 
     #[inline(always)]
     fn choose(&self, context: u32, code: &[u8], table: u8, start: usize) -> Result<usize, Refusal> {
-        let first = self.firsts[usize::from(table)];
-        let records = first..self.firsts[usize::from(table) + 1];
-        let patterns = Patterns {
-            masks: &self.masks[records.clone()],
-            values: &self.values[records.clone()],
-            contexts: &self.contexts[records],
-        };
+        let records = self.firsts[usize::from(table)]..self.firsts[usize::from(table) + 1];
         let code = code.get(start..).unwrap_or_default();
-        let mut matching = Matching::default();
-        let eight = code.first_chunk().copied().map(u64::from_le_bytes);
-        let short = match eight {
-            Some(bytes) => matching.add_all(patterns, context, bytes, u64::MAX),
-            None => {
-                let (bytes, present) = few_bytes(code);
-                matching.add_all(patterns, context, bytes, present)
-            }
-        };
-        if short {
-            return Err(refusal(SHORT, start));
-        }
-        let number = match matching.innermost {
-            1 => return Ok(first + matching.taken),
-            _ if matching.any => AMBIGUOUS,
-            _ => NO_MATCH,
+        let number = match self.patterns.choose::<GROUP>(records, context, code) {
+            Choice::Taken(record) => return Ok(record),
+            Choice::Short => return Err(refusal(SHORT, start)),
+            Choice::NoMatch => NO_MATCH,
+            Choice::Ambiguous => AMBIGUOUS,
         };
         Err(Refusal {
             table,
@@ -285,67 +259,6 @@ impl<R> Walk<'_, R> {
     }
 }
 
-/// Fewer than eight bytes, and a mask of those.
-fn few_bytes(code: &[u8]) -> (u64, u64) {
-    let mut bytes = [0; 8];
-    bytes[..code.len()].copy_from_slice(code);
-    (u64::from_le_bytes(bytes), (1 << (8 * code.len())) - 1)
-}
-
-/// The matching patterns met so far. Their values agree, so the one inside all
-/// others masks every bit that any of them does.
-#[derive(Default)]
-struct Matching {
-    byte_mask: u64,
-    context_mask: u32,
-    any: bool,
-    /// How many mask all of these bits, and the last of them.
-    innermost: usize,
-    taken: usize,
-}
-
-impl Matching {
-    /// Adds the patterns that match, unless one is short; tells whether one is.
-    /// Most don't agree in their bytes, so these are looked at alone at first.
-    #[inline(always)]
-    fn add_all(&mut self, patterns: Patterns, context: u32, bytes: u64, present: u64) -> bool {
-        let Patterns {
-            masks,
-            values,
-            contexts,
-        } = patterns;
-        for place in 0..masks.len() {
-            if bytes & masks[place] != values[place] & present {
-                continue;
-            }
-            let [context_mask, context_value] = contexts[place];
-            if context & context_mask == context_value {
-                if masks[place] & !present != 0 {
-                    return true;
-                }
-                self.add(place, masks[place], context_mask);
-            }
-        }
-        false
-    }
-
-    #[inline(always)]
-    fn add(&mut self, place: usize, byte_mask: u64, context_mask: u32) {
-        let bytes = self.byte_mask | byte_mask;
-        let context = self.context_mask | context_mask;
-        if !self.any || bytes != self.byte_mask || context != self.context_mask {
-            self.innermost = 0;
-        }
-        if bytes == byte_mask && context == context_mask {
-            self.innermost += 1;
-            self.taken = place;
-        }
-        self.byte_mask = bytes;
-        self.context_mask = context;
-        self.any = true;
-    }
-}
-
 /// The field's bits out of its bytes, or out of the context.
 #[inline(always)]
 fn field_value(field: &Field, context: u32, bytes: &[u8]) -> i64 {
@@ -387,8 +300,8 @@ mod tests {
     };
 
     /// The answers to every tail of the code and to a sweep over all of it.
-    fn answers_alike(d: &Description, context: u32, code: &[u8]) {
-        let scan = Scan::new(d);
+    fn answers_alike<const GROUP: usize>(d: &Description, context: u32, code: &[u8]) {
+        let scan = Scan::<GROUP>::new(d);
         for start in 0..=code.len() {
             let rest = &code[start..];
             let mut rows = [0; ROOM];
@@ -432,7 +345,8 @@ mod tests {
                 leaning => decodable(rng, SIZE, Leaning::ALL[leaning]),
             };
             let (code, context) = planted_stream(rng, &d, 60);
-            answers_alike(&d, context, &code);
+            answers_alike::<1>(&d, context, &code);
+            answers_alike::<4>(&d, context, &code);
         }
     }
 }
