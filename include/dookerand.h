@@ -1,8 +1,9 @@
 /* Dookerand: one proved instruction decoder.
  *
- * Every function takes any bytes and always returns an answer of document 01's table, "When the decoder says no":
- * the returned number is the answer's, and values[0] to values[3] are its values in the table's order, unused ones 0.
- * All four are set at each call. No other lent byte is touched unless the comment says so.
+ * Every function takes any bytes and always returns the number of an answer (`enum dookerand_answer`); values[0] to
+ * values[3] are the answer's values, in the order in which the comments name them, unused ones 0. All four are set at
+ * each call. No other lent byte is touched unless the comment says so. docs/ANSWERS.md says what each answer means and
+ * in which order they are tested, docs/FORMAT.md what the bytes of a description and of a decision tree are.
  *
  * A slice goes as a pointer and a length. With length 0 the pointer may be any pointer but NULL.
  * `values` points to four numbers that overlap no slice.
@@ -16,6 +17,48 @@
 #ifdef __cplusplus
 extern "C" {
 #endif
+
+/* What a function returns. */
+enum dookerand_answer {
+    DOOKERAND_DONE = 0,
+    DOOKERAND_MALFORMED = 1,         /* the description is not well formed */
+    DOOKERAND_SHORT = 2,             /* the code ends too early */
+    DOOKERAND_NO_MATCH = 3,          /* no constructor of a table matches */
+    DOOKERAND_AMBIGUOUS = 4,         /* no single matching constructor lies inside all others */
+    DOOKERAND_HOLE = 5,              /* a field's value has no name */
+    DOOKERAND_TOO_FAR = 6,           /* a position is above 16 */
+    DOOKERAND_TOO_MANY_ROWS = 7,     /* a 33rd row is needed */
+    DOOKERAND_ROOT_LENGTH_ZERO = 8,  /* the instruction takes no bytes */
+    DOOKERAND_NO_ROOM = 9,           /* what is lent is too short */
+    DOOKERAND_TEXT_TOO_LONG = 10,    /* the text is longer than 256 bytes */
+    DOOKERAND_BAD_TREE = 11,         /* the tree is not well formed */
+    DOOKERAND_NO_TABLE = 12          /* no constructor has this table */
+};
+
+/* The first number of a row of dookerand_decode. */
+enum dookerand_row {
+    DOOKERAND_ROW_CONSTRUCTOR = 0,
+    DOOKERAND_ROW_FIELD = 1,
+    DOOKERAND_ROW_NAME = 2
+};
+
+/* How a sweep ends. */
+enum dookerand_end {
+    DOOKERAND_END_USED = 0,
+    DOOKERAND_END_FULL = 1,
+    DOOKERAND_END_SHORT = 2
+};
+
+/* How many values there are, and numbers in a row. */
+#define DOOKERAND_VALUES 4
+#define DOOKERAND_ROW_NUMBERS 4
+
+/* What always suffices: numbers for the rows of dookerand_decode, bytes for the text of dookerand_text. */
+#define DOOKERAND_DECODE_ROOM 128
+#define DOOKERAND_TEXT_ROOM 256
+
+/* Stands for no record (the whole section), no constructor (a gap of a sweep, a leaf of a tree) and no single node. */
+#define DOOKERAND_NONE 65535
 
 /* Judges a description. 0: well formed. 1: section, record of its first fault (record 65,535 is the section itself). */
 uint32_t dookerand_check(const uint8_t *description, size_t description_len, uint64_t values[4]);

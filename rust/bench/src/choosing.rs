@@ -6,7 +6,8 @@ use dookerand::Answer;
 use generate::{bytes, instruction_set, instruction_starts, Rng};
 use reference::Description;
 
-use crate::timing::{median, print, print_part, rounds, Job, MANY};
+use crate::clock::{median, Time};
+use crate::timing::{print, print_part, rounds, Job, MANY};
 use crate::{proved_check, reference_check};
 
 pub const TABLE: u32 = 0;
@@ -113,7 +114,8 @@ impl Set {
         println!("{request}, {constructors} constructors, {length} bytes");
         print("  whole", median(&proved), median(&whole));
         print("  check", median(&check), median(&other_check));
-        print_part("  check's part of whole", median(&check) / median(&proved));
+        let part = median(&check).cpu / median(&proved).cpu;
+        print_part("  check's part of whole", part);
         print("  whole - check", median(&rest), median(&other_rest));
         print("  alone, parsed", median(&rest), median(&proper));
         Times {
@@ -123,15 +125,15 @@ impl Set {
     }
 }
 
-/// Microseconds a call, proved and reference.
+/// Time of a call, proved and reference.
 pub struct Times {
-    pub whole: [f64; 2],
+    pub whole: [Time; 2],
     /// Without the check.
-    pub alone: [f64; 2],
+    pub alone: [Time; 2],
 }
 
 /// What the longer job takes more, round by round.
-fn differences(longer: &[f64], shorter: &[f64]) -> Vec<f64> {
+fn differences(longer: &[Time], shorter: &[Time]) -> Vec<Time> {
     let pairs = longer.iter().zip(shorter);
-    pairs.map(|(longer, shorter)| longer - shorter).collect()
+    pairs.map(|(&longer, &shorter)| longer - shorter).collect()
 }

@@ -1,5 +1,7 @@
-//! Times the proved library beside the reference: one table, and AVR code
-//! beside other disassemblers. `bench details` says more about some requests.
+//! Times the proved library: every request beside the reference, sweeps and
+//! decodings beside the simplest fast scan, and AVR code beside other
+//! disassemblers. `bench details` says more about some requests, in processor
+//! time.
 //!
 //! `bench one` makes exactly one proved check of the longest description,
 //! for counting instructions; `bench one-ask` one question to a table of 512
@@ -11,9 +13,12 @@
 //! check that these three begin with; `bench one-avr-sweep` sweeps 64 KiB of
 //! AVR code.
 
+mod against_scan;
 mod choosing;
+mod clock;
 mod decoding;
 mod processes;
+mod scan;
 mod speed;
 mod subjects;
 mod sweep;
@@ -28,7 +33,8 @@ use dookerand::Answer;
 use generate::example::description_s;
 use generate::{bytes, longest};
 
-use timing::{median, print, rounds, MANY};
+use clock::median;
+use timing::{print, rounds, MANY};
 
 /// Requests that are made once.
 const ONES: [&str; 10] = [
@@ -67,9 +73,13 @@ fn main() {
 
 fn overview() {
     table::print();
+    against_scan::print();
     speed::print();
     let cores = std::thread::available_parallelism().map_or(1, usize::from);
-    println!("{cores} cores; every time is the median of rounds in which the jobs take turns.");
+    println!("{cores} cores; every time is the median of rounds in which the jobs take turns. CPU is the");
+    println!(
+        "time that the processor worked, and ratios are of it; wall is the time that went by."
+    );
 }
 
 fn details() {

@@ -5,9 +5,11 @@ use std::hint::black_box;
 
 use generate::bytes;
 
+use crate::clock::{median, Time};
 use crate::processes::{cstool, listing, objdump};
+use crate::scan::Scan;
 use crate::subjects::{any_instructions, avr_description};
-use crate::timing::{median, rounds_of, Job};
+use crate::timing::{rounds_of, Job};
 
 /// Bytes of code.
 const CODE: usize = 1024 * 1024;
@@ -39,6 +41,13 @@ pub fn print() {
         let swept = reference::sweep(black_box(&d), CONTEXT, black_box(&code), instructions);
         assert_eq!(black_box(swept).rows.len(), instructions);
     };
+    let scan = Scan::<4>::new(&d);
+    let scan_lent = RefCell::new(vec![0; ROW_NUMBERS * instructions]);
+    let scan_sweep = |_| {
+        let rows = &mut *black_box(scan_lent.borrow_mut());
+        let (_, written, _) = black_box(&scan).sweep(CONTEXT, black_box(&code), rows);
+        assert_eq!(black_box(written), instructions);
+    };
     let texts = |call| {
         sweep(call);
         let mut text = [0; TEXT];
@@ -62,23 +71,25 @@ pub fn print() {
     ];
     let found = || others.iter().flatten();
     let run: Vec<_> = found().map(|program| |_| program.run()).collect();
-    let mut jobs: Vec<Job> = vec![&sweep, &reference_sweep, &texts, &checks];
+    let mut jobs: Vec<Job> = vec![&sweep, &reference_sweep, &scan_sweep, &texts, &checks];
     jobs.extend(run.iter().map(|run| run as Job));
     let times = rounds_of(ROUNDS, 1, &jobs);
-    let times: Vec<f64> = times.iter().map(|times| median(times)).collect();
-    let line = |name: &str, time: f64, writes: &str| {
-        let speed = size as f64 / time;
-        println!("{name:24}{:>10.1}{speed:>8.2}  {writes}", time / 1e3);
+    let times: Vec<Time> = times.iter().map(|times| median(times)).collect();
+    let line = |name: &str, time: Time, writes: &str| {
+        let speed = size as f64 / time.cpu;
+        let [cpu, wall] = [time.cpu / 1e3, time.wall / 1e3];
+        println!("{name:24}{cpu:>10.1}{wall:>10.1}{speed:>10.2}  {writes}");
     };
     println!("AVR, {size} bytes of any opcodes that decode, {instructions} instructions");
-    println!("                                ms    MB/s  writes");
+    println!("                           CPU, ms  wall, ms  MB/s CPU  writes");
     line("proved sweep", times[0], "rows");
     line("reference sweep", times[1], "rows");
+    line("scan sweep, by fours", times[2], "rows");
     let by_calls = "rows, then each text by a call, which checks the description";
-    line("proved sweep and texts", times[2], by_calls);
-    let without_checks = times[2] - CHECKS as f64 * times[3];
+    line("proved sweep and texts", times[3], by_calls);
+    let without_checks = times[3] - times[4].times(CHECKS);
     line("  without those checks", without_checks, "the same");
-    for (program, &time) in found().zip(&times[4..]) {
+    for (program, &time) in found().zip(&times[5..]) {
         line(program.name, time, &program.writes);
     }
     for why in others.iter().filter_map(|other| other.as_ref().err()) {

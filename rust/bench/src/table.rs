@@ -39,10 +39,14 @@ pub fn print() {
             jobs.push(of(subject));
         }
     }
-    println!("request     description     proved, us  reference, us   ratio");
+    println!("                             CPU, us                        wall, us");
+    println!("request     description       proved   reference   ratio      proved   reference");
     for ((request, name), [proved, reference]) in names.into_iter().zip(medians_of(&jobs)) {
-        let ratio = proved / reference;
-        println!("{request:12}{name:12}{proved:>14.3}{reference:>15.3}{ratio:>8.2}");
+        let ratio = proved.cpu / reference.cpu;
+        println!(
+            "{request:12}{name:12}{:>12.3}{:>12.3}{ratio:>8.2}{:>12.3}{:>12.3}",
+            proved.cpu, reference.cpu, proved.wall, reference.wall,
+        );
     }
     for subject in &subjects {
         subject.print();

@@ -1,6 +1,6 @@
 //! Times of calls that take turns.
 
-use std::time::Instant;
+use crate::clock::{median, time, Time};
 
 /// Many short rounds, so that neighbours meet about the same disturbances.
 pub const MANY: usize = 401;
@@ -14,82 +14,73 @@ const ROUND: f64 = 500.0;
 /// Something to time; it is given the number of the call.
 pub type Job<'a> = &'a dyn Fn(usize);
 
-/// Microseconds a call of each job, round by round; jobs take turns.
-pub fn rounds<const N: usize>(count: usize, calls: usize, jobs: [Job; N]) -> [Vec<f64>; N] {
+/// Time of a call of each job, round by round; jobs take turns.
+pub fn rounds<const N: usize>(count: usize, calls: usize, jobs: [Job; N]) -> [Vec<Time>; N] {
     let times = rounds_of(count, calls, &jobs);
     times.try_into().expect("each job has its times")
 }
 
 /// The same for any number of jobs.
-pub fn rounds_of(count: usize, calls: usize, jobs: &[Job]) -> Vec<Vec<f64>> {
+pub fn rounds_of(count: usize, calls: usize, jobs: &[Job]) -> Vec<Vec<Time>> {
     let mut times = vec![Vec::new(); jobs.len()];
     for round in 0..count {
         for (job, times) in jobs.iter().zip(&mut times) {
-            times.push(microseconds(round * calls, calls, job));
+            times.push(a_call(round * calls, calls, job));
         }
     }
     times
 }
 
-/// Median microseconds a call of each job. All of them take turns, so that each
-/// is timed over the whole run; those that take long in fewer rounds.
-pub fn medians_of<J: Fn(usize)>(pairs: &[[J; 2]]) -> Vec<[f64; 2]> {
-    let fitting: Vec<_> = pairs.iter().map(|[job, _]| fitting(job)).collect();
-    let mut times = vec![[const { Vec::new() }; 2]; pairs.len()];
+/// Median time of a call of each job. All of them take turns, so that each is
+/// timed over the whole run; those that take long in fewer rounds.
+pub fn medians_of<J: Fn(usize), const N: usize>(groups: &[[J; N]]) -> Vec<[Time; N]> {
+    let jobs = groups.as_flattened();
+    let fitting: Vec<_> = jobs.iter().map(|job| fitting(job)).collect();
+    let mut times = vec![Vec::new(); jobs.len()];
     for round in 0..MANY {
-        for ((pair, times), &(every, calls)) in pairs.iter().zip(&mut times).zip(&fitting) {
-            if round % every != 0 {
-                continue;
-            }
-            for (job, times) in pair.iter().zip(times) {
-                times.push(microseconds(round * calls, calls, job));
+        for ((job, times), &(every, calls)) in jobs.iter().zip(&mut times).zip(&fitting) {
+            if round % every == 0 {
+                times.push(a_call(round * calls, calls, job));
             }
         }
     }
-    let medians = |pair: [Vec<f64>; 2]| pair.map(|times| median(&times));
-    times.into_iter().map(medians).collect()
+    let medians: Vec<Time> = times.iter().map(|times| median(times)).collect();
+    medians.as_chunks().0.to_vec()
 }
 
 /// A job is timed once in so many rounds, with so many calls.
 fn fitting(job: Job) -> (usize, usize) {
-    let one = microseconds(0, 1, job).min(microseconds(1, 1, job));
+    let one = a_call(0, 1, job).wall.min(a_call(1, 1, job).wall);
     match one > ROUND {
         true => (MANY / FEW, 1),
         false => (1, (ROUND / one) as usize),
     }
 }
 
-fn microseconds(first: usize, calls: usize, job: Job) -> f64 {
-    let started = Instant::now();
-    for call in first..first + calls {
-        job(call);
-    }
-    started.elapsed().as_secs_f64() * 1e6 / calls as f64
+/// Time of one of so many calls, numbered from the first on.
+fn a_call(first: usize, calls: usize, job: Job) -> Time {
+    let all = time(|| (first..first + calls).for_each(job));
+    all.of_each(calls)
 }
 
-pub fn median(times: &[f64]) -> f64 {
-    let mut sorted = times.to_vec();
-    sorted.sort_by(f64::total_cmp);
-    sorted[sorted.len() / 2]
-}
-
-/// Prints both times and their ratio.
-pub fn print(name: &str, proved: f64, reference: f64) {
+/// Prints both processor times and their ratio.
+pub fn print(name: &str, proved: Time, reference: Time) {
+    let [proved, reference] = [proved.cpu, reference.cpu];
     let ratio = proved / reference;
     println!("{name}: proved {proved:.3} us, reference {reference:.3} us, ratio {ratio:.2}");
 }
 
-/// Prints both times of one of so many things that a call does, and their
-/// ratio.
-pub fn print_each(name: &str, count: usize, times: [f64; 2]) {
-    let [proved, reference] = times.map(|time| 1e3 * time / count as f64);
+/// Prints both processor times of one of so many things that a call does, and
+/// their ratio.
+pub fn print_each(name: &str, count: usize, times: [Time; 2]) {
+    let [proved, reference] = times.map(|time| 1e3 * time.of_each(count).cpu);
     let ratio = proved / reference;
     println!("{name}: proved {proved:.2} ns, reference {reference:.2} ns, ratio {ratio:.2}");
 }
 
-/// Prints how many of these things are done in a second.
-pub fn print_speed(name: &str, count: usize, times: [f64; 2]) {
-    let [proved, reference] = times.map(|time| 1e6 * count as f64 / time);
+/// Prints how many of these things are done in a second of processor time.
+pub fn print_speed(name: &str, count: usize, times: [Time; 2]) {
+    let [proved, reference] = times.map(|time| 1e6 * count as f64 / time.cpu);
     println!("{name}: proved {proved:.0}, reference {reference:.0}");
 }
 

@@ -1,5 +1,5 @@
-/* Calls every function of the header on a description (the first argument's file) and code 25 FE, and prints each answer:
- * its number, its four values, and what was lent. */
+/* Prints every constant of the header, calls each of its functions on a description (the first argument's file) and code
+ * 25 FE, and prints each answer: its number, its four values, and what was lent. */
 #include <inttypes.h>
 #include <stdio.h>
 
@@ -21,13 +21,29 @@ static void print_rows(const int64_t *rows, size_t numbers)
         printf("%" PRId64 "%s", rows[i], i + 1 < numbers ? " " : "\n");
 }
 
+static void print_constants(void)
+{
+    const int answers[] = { DOOKERAND_DONE, DOOKERAND_MALFORMED, DOOKERAND_SHORT, DOOKERAND_NO_MATCH,
+                            DOOKERAND_AMBIGUOUS, DOOKERAND_HOLE, DOOKERAND_TOO_FAR, DOOKERAND_TOO_MANY_ROWS,
+                            DOOKERAND_ROOT_LENGTH_ZERO, DOOKERAND_NO_ROOM, DOOKERAND_TEXT_TOO_LONG, DOOKERAND_BAD_TREE,
+                            DOOKERAND_NO_TABLE };
+
+    printf("answers");
+    for (size_t i = 0; i < sizeof answers / sizeof answers[0]; i++)
+        printf(" %d", answers[i]);
+    printf("\nrows %d %d %d\n", DOOKERAND_ROW_CONSTRUCTOR, DOOKERAND_ROW_FIELD, DOOKERAND_ROW_NAME);
+    printf("ends %d %d %d\n", DOOKERAND_END_USED, DOOKERAND_END_FULL, DOOKERAND_END_SHORT);
+    printf("room %d %d %d %d\n", DOOKERAND_VALUES, DOOKERAND_ROW_NUMBERS, DOOKERAND_DECODE_ROOM, DOOKERAND_TEXT_ROOM);
+    printf("none %d\n", DOOKERAND_NONE);
+}
+
 int main(int argc, char **argv)
 {
     const uint8_t code[] = { 0x25, 0xfe };
     const uint8_t tree[] = { 1, 0, 0, 0, 0, 0 };
     int64_t rows[20] = { 0 };
     uint8_t text[16] = "................";
-    uint64_t values[4];
+    uint64_t values[DOOKERAND_VALUES];
     size_t length;
     FILE *file = argc == 2 ? fopen(argv[1], "rb") : NULL;
 
@@ -35,6 +51,7 @@ int main(int argc, char **argv)
         return 2;
     length = fread(description, 1, sizeof description, file);
     fclose(file);
+    print_constants();
     print("check", dookerand_check(description, length, values), values);
     print("ask", dookerand_ask(description, length, 1, 0, code, sizeof code, values), values);
     print("clash", dookerand_clash(description, length, 1, values), values);

@@ -2,6 +2,7 @@
 
 use crate::choose::Taken;
 use crate::clash::Clash;
+use crate::listing::Listed;
 use crate::read::Fault;
 use crate::sweep::{End, Sweep};
 use crate::tree::Verdict;
@@ -59,6 +60,7 @@ pub enum Answer {
     /// Rows or bytes of text.
     Written(usize),
     Swept(Sweep),
+    Listed(Listed),
     Refused(Refusal),
 }
 
@@ -86,6 +88,7 @@ impl Answer {
             ),
             Answer::Written(count) => (0, values([*count as u64])),
             Answer::Swept(sweep) => (0, swept_values(sweep)),
+            Answer::Listed(listed) => (0, listed_values(listed)),
             Answer::Refused(refusal) => refusal.number_and_values(),
         }
     }
@@ -99,6 +102,12 @@ fn swept_values(sweep: &Sweep) -> [u64; 4] {
         End::Short => 2,
     };
     values([end, sweep.rows.len() as u64, sweep.next as u64])
+}
+
+/// The bytes and lines written, the next place, and whether the text is full.
+fn listed_values(listed: &Listed) -> [u64; 4] {
+    let (bytes, lines) = (listed.text.len() as u64, listed.lines as u64);
+    [bytes, lines, listed.next, listed.full.into()]
 }
 
 fn values<const N: usize>(used: [u64; N]) -> [u64; 4] {

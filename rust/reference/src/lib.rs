@@ -24,7 +24,7 @@ pub use choose::{ask, Taken};
 pub use clash::{clash, Clash};
 pub use decode::{decode, decode_instruction, Decoded, Part, Row};
 pub use description::{Constructor, Description, Field, Name, Operand, Pattern, Piece};
-pub use listing::listing;
+pub use listing::{list, listing, Listed};
 pub use read::{Fault, WHOLE_SECTION};
 pub use sweep::{sweep, End, Sweep};
 pub use text::decode_text;

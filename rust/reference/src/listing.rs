@@ -1,4 +1,4 @@
-//! The listing program.
+//! Listing code as lines, and the listing program.
 
 use crate::answer::Refusal;
 use crate::check::check;
@@ -7,12 +7,13 @@ use crate::description::Description;
 use crate::text::text_of;
 
 const CODE_LIMIT: usize = 4096;
+const CONTEXT: u32 = 0;
 
 /// What the program prints for its input: a length, a description, code.
 pub fn listing(input: &[u8]) -> Vec<u8> {
     let (description, code) = split(input);
     match check(description) {
-        Ok(description) => list(&description, code),
+        Ok(description) => list(&description, CONTEXT, code, 0, usize::MAX).text,
         Err(fault) => format!("malformed {} {}\n", fault.section, fault.record).into_bytes(),
     }
 }
@@ -27,30 +28,62 @@ fn split(input: &[u8]) -> (&[u8], &[u8]) {
     (description, &code[..code.len().min(CODE_LIMIT)])
 }
 
-fn list(description: &Description, code: &[u8]) -> Vec<u8> {
-    let mut output = Vec::new();
-    let mut next = 0;
-    while next < code.len() {
-        let mut line = |shown: &[u8]| {
-            output.extend_from_slice(format!("{next:08x}: ").as_bytes());
-            output.extend_from_slice(shown);
-            output.push(b'\n');
-        };
-        match decode_instruction(description, 0, &code[next..]) {
-            Ok(decoded) => {
-                let text = text_of(description, &decoded);
-                line(text.as_deref().unwrap_or(b".long"));
-                next += decoded.length;
-            }
-            Err(Refusal::Short { .. }) => {
-                line(b".short");
-                break;
-            }
-            Err(_) => {
-                line(format!(".byte 0x{:02x}", code[next]).as_bytes());
-                next += 1;
-            }
+/// Lines of a listing, and where it goes on.
+#[derive(Clone, Debug, PartialEq, Eq)]
+pub struct Listed {
+    pub text: Vec<u8>,
+    pub lines: usize,
+    pub next: u64,
+    /// Another line follows, for which there is no room.
+    pub full: bool,
+}
+
+/// Lists the code from a place on, as many whole lines as there is room for.
+pub fn list(
+    description: &Description,
+    context: u32,
+    code: &[u8],
+    from: u64,
+    room: usize,
+) -> Listed {
+    let mut listed = Listed {
+        text: Vec::new(),
+        lines: 0,
+        next: from,
+        full: false,
+    };
+    // Past the code's end there is no rest.
+    while let Some(rest) = rest(code, listed.next) {
+        let (shown, length) = shown_at(description, context, rest);
+        let mut line = format!("{:08x}: ", listed.next as u32).into_bytes();
+        line.extend(shown);
+        line.push(b'\n');
+        if listed.text.len() + line.len() > room {
+            listed.full = true;
+            break;
         }
+        listed.text.extend(line);
+        listed.lines += 1;
+        listed.next += length as u64;
     }
-    output
+    listed
+}
+
+/// The code from a place on, if that is inside.
+fn rest(code: &[u8], from: u64) -> Option<&[u8]> {
+    let rest = code.get(usize::try_from(from).ok()?..)?;
+    (!rest.is_empty()).then_some(rest)
+}
+
+/// What a line shows behind its address, and how many bytes it is about.
+/// Nothing follows a short instruction, so its line is about all that is left.
+fn shown_at(description: &Description, context: u32, rest: &[u8]) -> (Vec<u8>, usize) {
+    match decode_instruction(description, context, rest) {
+        Ok(decoded) => {
+            let text = text_of(description, &decoded);
+            (text.unwrap_or(b".long".to_vec()), decoded.length)
+        }
+        Err(Refusal::Short { .. }) => (b".short".to_vec(), rest.len()),
+        Err(_) => (format!(".byte 0x{:02x}", rest[0]).into_bytes(), 1),
+    }
 }

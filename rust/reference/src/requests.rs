@@ -61,6 +61,16 @@ pub fn sweep(description: &[u8], context: u32, code: &[u8], lent: &mut [i64]) ->
     answer(swept(), Answer::Swept)
 }
 
+/// Lists code from a place on as lines of text.
+pub fn list(description: &[u8], context: u32, code: &[u8], from: u64, lent: &mut [u8]) -> Answer {
+    let mut listed = || {
+        let listed = crate::list(&crate::check(description)?, context, code, from, lent.len());
+        write(&listed.text, lent)?;
+        Ok(listed)
+    };
+    answer(listed(), Answer::Listed)
+}
+
 fn write<T: Copy>(written: &[T], lent: &mut [T]) -> Result<(), Refusal> {
     lent.get_mut(..written.len())
         .ok_or(Refusal::LentTooShort)?

@@ -1,9 +1,9 @@
-//! What docs/FORMAT.md says: S byte by byte, mistakes and their faults, and
-//! its examples.
+//! What docs/FORMAT.md says: S and a tree byte by byte, mistakes and their
+//! faults, and its examples.
 
 use generate::bytes;
-use generate::example::{constructor, description_s, field, name, operand};
-use reference::{check, decode, Description, Fault, Field, Refusal};
+use generate::example::{constructor, description_s, field, name, operand, tree_of, TABLE_1};
+use reference::{check, decode, tree_check, Description, Fault, Field, Refusal, Verdict};
 
 const FORMAT: &str = include_str!("../../../docs/FORMAT.md");
 
@@ -30,10 +30,10 @@ fn hex(digits: &str) -> Vec<u8> {
         .collect()
 }
 
-#[test]
-fn s_byte_by_byte() {
+/// The bytes of a chapter's lines, each of which begins with its place.
+fn listed_bytes(heading: &str) -> Vec<u8> {
     let mut listed = Vec::new();
-    for line in chapter("Description S").filter(|line| line.contains(';')) {
+    for line in chapter(heading).filter(|line| line.contains(';')) {
         let Some((place, rest)) = line.split_once(':') else {
             continue;
         };
@@ -42,12 +42,33 @@ fn s_byte_by_byte() {
             listed.extend(hex(rest.split(';').next().unwrap()));
         }
     }
-    assert_eq!(listed, bytes(&description_s()));
+    listed
 }
 
-/// S after changes such as "put 00 at 18; insert 0F 00 at 20; cut to 215".
+#[test]
+fn s_byte_by_byte() {
+    assert_eq!(listed_bytes("Description S"), bytes(&description_s()));
+}
+
+#[test]
+fn a_tree_byte_by_byte() {
+    let tree = listed_bytes("A tree for table 1 of S");
+    assert_eq!(tree, tree_of(&TABLE_1));
+    let s = description_s();
+    assert_eq!(tree_check(&s, 1, &tree), Ok(Verdict::Accepted));
+    match tree_check(&s, 1, &changed(tree, "put 01 at 56")) {
+        Ok(Verdict::Rejected { node, bytes, .. }) => assert_eq!((node, bytes[0]), (13, 0x1f)),
+        other => panic!("{other:?}"),
+    }
+}
+
+/// S after changes.
 fn changed_s(changes: &str) -> Vec<u8> {
-    let mut s = bytes(&description_s());
+    changed(bytes(&description_s()), changes)
+}
+
+/// Bytes after changes such as "put 00 at 18; insert 0F 00 at 20; cut to 215".
+fn changed(mut s: Vec<u8>, changes: &str) -> Vec<u8> {
     for change in changes.split("; ") {
         let (verb, rest) = change.split_once(' ').unwrap();
         let (digits, place) = match rest.split_once(" at ") {
@@ -89,6 +110,23 @@ fn odd_but_well_formed() {
         let changed = changed_s(row[1]);
         assert_ne!(changed, bytes(&description_s()), "{}", row[0]);
         assert!(check(&changed).is_ok(), "{}", row[0]);
+    }
+}
+
+#[test]
+fn mistakes_in_a_tree() {
+    let rows = table("Mistakes in a tree");
+    assert!(rows.len() > 10);
+    for row in rows {
+        let tree = changed(tree_of(&TABLE_1), row[1]);
+        let node = row[2].parse().unwrap();
+        let refused = Err(Refusal::BadTree { node });
+        assert_eq!(
+            tree_check(&description_s(), 1, &tree),
+            refused,
+            "{}",
+            row[0]
+        );
     }
 }
 
