@@ -1,0 +1,2 @@
+-- Laws of acceptance.
+pub mod Facts

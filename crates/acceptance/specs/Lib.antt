@@ -1,0 +1,2 @@
+-- Whether bytes are a description that the entry points work with.
+pub mod Acceptance
