@@ -3,4 +3,3 @@ pub mod Refusals
 pub mod State
 pub mod Tree
 pub mod Walk
-pub mod Entry

@@ -1,24 +1,27 @@
--- "An answer, unless "short", stays the same whatever bytes follow", for any answer that is told of an instruction.
+-- "An answer, unless "short", stays the same whatever bytes follow" (demand 2), for any answer that is told of an instruction.
 use Prim.Native.Nat.{ℕ}
 use mathlib.Core.List.{List, _++_}
 use mathlib.Core.Path.{_≡_, refl, ap}
-use Rattle.format.specs.Check.{checkOf}
 use Rattle.format.specs.Description.{Description, description}
 use Rattle.format.specs.declared.Layout.{Layout}
-use Rattle.format.specs.declared.Checked.{Checked}
-use Rattle.format.specs.declared.Checked.the-variants.{Good, Fault}
-use Rattle.format.proofs.Formation.{formed, obeyed}
+use Rattle.format.proofs.Formation.{obeyed}
+use Rattle.acceptance.specs.Acceptance.{acceptanceOf, accepting}
+use Rattle.acceptance.specs.declared.Rejection.{Rejection}
+use Rattle.acceptance.specs.declared.Acceptance.{Acceptance}
+use Rattle.acceptance.specs.declared.Acceptance.the-variants.{Accepted, Rejected}
+use Rattle.acceptance.proofs.Facts.{accepted-formed}
 use Rattle.decoding_spec.specs.Tree.{Node}
 use Rattle.decoding_spec.specs.Walk.{Result, refused, instructionOf}
-use Rattle.decoding_spec.specs.Entry.{answered}
 use Rattle.decoding_spec.specs.declared.Refusal.the-variants.{Short}
 use Rattle.decoding_theorems.proofs.Stays.{stays}
 
-pub answers-stay : {A : Type 0} (told : Description → Result Node → A) (fault : ℕ → ℕ → A) (b : List ℕ) (c : ℕ) (s m : List ℕ)
-    → ((l : Layout) → checkOf b ≡ Good l → (p : ℕ) → instructionOf (description b l) c s ≡ refused (Short p) → ⊥)
-    → answered told fault b c (s ++ m) (checkOf b) ≡ answered told fault b c s (checkOf b)
-answers-stay told fault b c s m whole = go (checkOf b) refl
+pub answers-stay : {A : Type 0} (rejected : Rejection → A) (tell : Description → Result Node → A) (b : List ℕ) (c : ℕ) (s m : List ℕ)
+    → ((l : Layout) → acceptanceOf b ≡ Accepted l → (p : ℕ) → instructionOf (description b l) c s ≡ refused (Short p) → ⊥)
+    → accepting rejected (λ d. tell d (instructionOf d c (s ++ m))) b (acceptanceOf b)
+    ≡ accepting rejected (λ d. tell d (instructionOf d c s)) b (acceptanceOf b)
+answers-stay rejected tell b c s m whole = go (acceptanceOf b) refl
   where
-    go : (x : Checked) → checkOf b ≡ x → answered told fault b c (s ++ m) x ≡ answered told fault b c s x
-    go (Good l) e = ap (told (description b l)) (stays (description b l) (obeyed b l (formed b l e)) c s m (whole l e))
-    go (Fault k i) e = refl
+    go : (x : Acceptance) → acceptanceOf b ≡ x
+        → accepting rejected (λ d. tell d (instructionOf d c (s ++ m))) b x ≡ accepting rejected (λ d. tell d (instructionOf d c s)) b x
+    go (Accepted l) e = ap (tell (description b l)) (stays (description b l) (obeyed b l (accepted-formed b l e)) c s m (whole l e))
+    go (Rejected x) e = refl
