@@ -4,3 +4,4 @@ pub mod Steps
 pub mod Turns
 pub mod Readiness
 pub mod Places
+pub mod Instructions
