@@ -1,42 +1,52 @@
--- From the walk's answer to the answer and the lent rows.
+-- From the instruction and its rows to the answer and the lent rows.
 use Prim.Native.Nat.{ℕ, _+_, _*_, _≤_, _<_}
 use mathlib.Core.List.{List, _++_}
 use mathlib.Core.Path.{_≡_, refl, sym, ap, _∙_}
 use native.Mathlib.Omega.{arith}
 use borrow.Author.Tests.{le-leb, lt-leb}
 use lib.Dec.{leb}
-use lib.IntN.{ℤ}
-use lib.ListN.{length, drop}
-use Rattle.format.specs.Numbers.{rowNumbers}
-use Rattle.instruction.specs.Tree.{Node, rowsOf, numbersOf}
-use Rattle.instruction.specs.Walk.{Result, done, refused}
-use Rattle.instruction.specs.declared.Refusal.{Refusal}
-use Rattle.walking.specs.Walks.{WalksTo}
-use Rattle.walking.specs.declared.Walked.{Walked}
+use lib.IntN.{ℤ, pos}
+use lib.ListN.{length, take, drop, replicate}
+use Rattle.format.specs.Numbers.{mostRows, rowNumbers}
+use Rattle.format.specs.Description.{Description}
+use Rattle.decoding_spec.specs.Tree.{Node, rowsOf, numbersOf}
+use Rattle.decoding_spec.specs.Walk.{instructionOf}
+use Rattle.decoding_spec.specs.declared.State.{State}
+use Rattle.decoding_spec.specs.declared.Refusal.{Refusal}
+use Rattle.walking.specs.Scratch.{scratchNumbers, scratchLength, sizedOf, written}
+use Rattle.walking.specs.Walks.{instructionAs}
+use Rattle.walking.specs.declared.Instruction.{Instruction}
 use Rattle.walking.specs.declared.Walked.the-variants as walked
-use Rattle.walking.proofs.Steps.{was-refused, was-done}
-use Rattle.decoding.specs.Decoding.{told, written}
-use Rattle.decoding.specs.Handing.{Handed}
+use Rattle.walking.proofs.Instructions.{was-refused, was-done, plain-rows, sized-length, rows-first}
+use Rattle.decoding.specs.Decoding.{Decodes, answerOf, bufferAfter}
+use Rattle.decoding.specs.Copying.{Copied}
 use Rattle.decoding.specs.declared.Decoded.the-variants.{Done, Refused, NoRoom}
-use Rattle.decoding.proofs.Numbers.{hand-all}
+use Rattle.decoding.proofs.Numbers.{copy-all}
 
-module _ (result : Result Node) (w : Walked) (before scratch old new : List ℤ) (walks : WalksTo rowsOf result w 0 before scratch) where
-  pub tells-refusal : (r : Refusal) → w ≡ walked.Refused r → (Refused r ≡ told (length old) result) × (old ≡ written old result)
-  tells-refusal r e = let z = was-refused rowsOf 0 before scratch result w r walks e in (rw z, rw z)
+module _ (d : Description) (c : ℕ) (s : List ℕ) (i : Instruction) (is : i ≡ instructionAs (instructionOf d c s)) where
+  pub refusal-told : (old : List ℤ) (r : Refusal) → i .walked ≡ walked.Refused r → Decodes d c s old (Refused r) old
+  refusal-told old r e = let z = was-refused d c s i is r e in record { answer = rw z; buffer = rw z }
 
-  module _ (u l : ℕ) (e : w ≡ walked.Done u l) where
-    pub tells-no-room : length old < rowNumbers * u → (NoRoom ≡ told (length old) result) × (old ≡ written old result)
-    tells-no-room h =
-        let z = was-done rowsOf 0 before scratch result w u l walks e in
-        let f : leb (rowNumbers * length (rowsOf (z .found))) (length old) ≡ _ = lt-leb (rowNumbers * length (rowsOf (z .found))) (length old) (omega (arith, z .count)) in
-        (sym (ap (told (length old)) (z .is) ∙ rw f), sym (ap (written old) (z .is) ∙ rw f))
+  module _ (l : ℕ) (st : State) (e : i .walked ≡ walked.Done st l) where
+    pub few : st .used ≤ mostRows
+    few = let w = was-done d c s i is l st e in omega (arith, w .count, w .few)
 
-    pub tells-rows : rowNumbers * u ≤ length old → Handed scratch (rowNumbers * u) old new
-        → (Done u ≡ told (length old) result) × (new ≡ written old result)
-    tells-rows h g =
-        let z = was-done rowsOf 0 before scratch result w u l walks e in
-        let n : u ≡ length (rowsOf (z .found)) = omega (arith, z .count) in
-        let f : leb (rowNumbers * length (rowsOf (z .found))) (length old) ≡ _ = le-leb (rowNumbers * length (rowsOf (z .found))) (length old) (omega arith) in (
-          sym (ap (told (length old)) (z .is) ∙ (rw f (ap Done (sym n)))),
-          hand-all scratch (rowsOf (z .found)) u old new n (z .holds) h g ∙ sym (ap (written old) (z .is) ∙ rw f),
-        )
+    pub no-room-told : (old : List ℤ) → length old < rowNumbers * st .used → Decodes d c s old NoRoom old
+    no-room-told old h =
+        let w = was-done d c s i is l st e in
+        let n = length (rowsOf (w .tree)) in
+        let f : leb (rowNumbers * n) (length old) ≡ _ = lt-leb (rowNumbers * n) (length old) (omega (arith, w .count)) in
+        record { answer = sym (ap (answerOf (length old)) (w .result) ∙ rw f); buffer = sym (ap (bufferAfter old) (w .result) ∙ rw f) }
+
+    pub rows-told : (old new : List ℤ) → rowNumbers * st .used ≤ length old → Copied (i .rows) (rowNumbers * st .used) old new → Decodes d c s old (Done (st .used)) new
+    rows-told old new h g =
+        let w = was-done d c s i is l st e in
+        let n = length (rowsOf (w .tree)) in
+        let f : leb (rowNumbers * n) (length old) ≡ _ = le-leb (rowNumbers * n) (length old) (omega (arith, w .count)) in
+        let copied : new ≡ numbersOf (rowsOf (w .tree)) ++ drop (rowNumbers * st .used) old =
+        rw (plain-rows (w .tree)) at
+        (copy-all (i .rows) (sizedOf (w .tree)) (st .used) old new (w .count ∙ sym (sized-length (w .tree))) (ap (take (scratchNumbers * st .used)) (w .rows) ∙ ap (λ (k : ℕ). take (scratchNumbers * k) (written 0 (sizedOf (w .tree)) (replicate scratchLength (pos 0)))) (w .count) ∙ rows-first (w .tree) (w .few)) h g) in
+        record {
+          answer = sym (ap (answerOf (length old)) (w .result) ∙ rw f (ap Done (sym (w .count))));
+          buffer = copied ∙ ap (λ (k : ℕ). numbersOf (rowsOf (w .tree)) ++ drop (rowNumbers * k) old) (w .count) ∙ sym (ap (bufferAfter old) (w .result) ∙ rw f);
+        }

@@ -1,19 +1,19 @@
--- "An answer, unless "short", stays the same whatever bytes follow", for the rows.
+-- Demand 2: "An answer, unless "short", stays the same whatever bytes follow", for the rows.
 use Prim.Native.Nat.{ℕ}
 use mathlib.Core.List.{List, _++_}
 use mathlib.Core.Path.{_≡_}
 use lib.IntN.{ℤ}
-use Rattle.instruction.specs.declared.Refusal.the-variants.{Short}
-use Rattle.instruction.proofs.Entries.{answers-stay}
-use Rattle.decoding.specs.Decoding.{told, written, decodeOf, rowsAfter}
-use Rattle.decoding.specs.declared.Decoded.the-variants.{Malformed, Refused}
+use Rattle.decoding_spec.specs.declared.Refusal.the-variants.{Short}
+use Rattle.decoding_theorems.proofs.Entries.{answers-stay}
+use Rattle.decoding.specs.Decoding.{answerOf, bufferAfter, decodeOf, rowsAfter}
+use Rattle.decoding.specs.declared.Decoded.the-variants.{Rejected, Refused}
 
 module _ (b : List ℕ) (c : ℕ) (s m : List ℕ) (old : List ℤ) (room : ℕ)
     (whole : (p : ℕ) → decodeOf b c s room ≡ Refused (Short p) → ⊥) where
   pub decode-stays : decodeOf b c (s ++ m) room ≡ decodeOf b c s room
   unfolding decodeOf
-  decode-stays = answers-stay (λ d. told room) Malformed b c s m (λ l e p q. whole p (rw (e, q)))
+  decode-stays = answers-stay Rejected (λ d. answerOf room) b c s m (λ l e p q. whole p (rw (e, q)))
 
   pub rows-stay : rowsAfter b c (s ++ m) old ≡ rowsAfter b c s old
   unfolding decodeOf rowsAfter
-  rows-stay = answers-stay (λ d. written old) (λ k i. old) b c s m (λ l e p q. whole p (rw (e, q)))
+  rows-stay = answers-stay (λ x. old) (λ d. bufferAfter old) b c s m (λ l e p q. whole p (rw (e, q)))

@@ -1,3 +1,3 @@
 -- Decoding one instruction of any bytes to rows.
 pub mod Decoding
-pub mod Handing
+pub mod Copying

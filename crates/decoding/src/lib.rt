@@ -1,7 +1,8 @@
 // Decoding one instruction of any bytes to rows.
-use format::Checked;
+use acceptance::Acceptance;
+use acceptance::Rejection;
+use decoding_spec::Refusal;
 use format::Layout;
-use instruction::Refusal;
 use walking::Walked;
 ghost use mathlib.Core.Path.{_≡_};
 ghost use Prim.Native.Nat.{_*_, _≤_};
@@ -9,22 +10,20 @@ ghost use lib.ListN.{length};
 ghost use Rattle.format.specs.Numbers.{mostRows, rowNumbers};
 ghost use Rattle.format.specs.Check.{Formed};
 ghost use Rattle.format.specs.Description.{description};
-ghost use Rattle.instruction.specs.Walk.{instructionOf};
-ghost use Rattle.walking.specs.Scratch.{scratchLength};
-ghost use Rattle.decoding.specs.Decoding.{told, written, decodeOf, rowsAfter};
-ghost use Rattle.decoding.specs.Handing.{Handed};
+ghost use Rattle.decoding.specs.Decoding.{Decodes, decodeOf, rowsAfter};
+ghost use Rattle.decoding.specs.Copying.{Copied};
 
 pub enum Decoded {
     Done(usize),
-    Malformed { section: usize, record: usize },
+    Rejected(Rejection),
     Refused(Refusal),
     NoRoom,
 }
 
 // Four numbers of each of the scratch rows' five: number k of the rows is number k + k / 4 of the scratch rows.
-fn hand_out(scratch: &[i64], used: usize, rows: &mut [i64])
-    requires { ⌜ (length (now scratch) ≡ scratchLength) × (used ≤ mostRows) × (rowNumbers * used ≤ length (now rows)) ⌝ }
-    ensures { λ _. ⌜ Handed (now (scratch .entry)) (rowNumbers * used) (now (rows .entry)) (now (rows .exit)) ⌝ }
+fn copy_rows(scratch: &[i64; walking::SCRATCH], used: usize, rows: &mut [i64])
+    requires { ⌜ (used ≤ mostRows) × (rowNumbers * used ≤ length (now rows)) ⌝ }
+    ensures { λ _. ⌜ Copied (now (scratch .entry)) (rowNumbers * used) (now (rows .entry)) (now (rows .exit)) ⌝ }
 {
     let numbers = format::ROW_NUMBERS * used;
     let mut k = 0;
@@ -36,19 +35,20 @@ fn hand_out(scratch: &[i64], used: usize, rows: &mut [i64])
 
 fn decode_in(desc: &[u8], layout: Layout, context: u32, code: &[u8], rows: &mut [i64]) -> Decoded
     requires { ⌜ Formed (now desc) layout ⌝ }
-    ensures { λ r. ⌜ r ≡ told (length (now (rows .entry))) (instructionOf (description (now (desc .entry)) layout) context (now (code .entry))) ⌝ }
-    ensures { λ _. ⌜ now (rows .exit) ≡ written (now (rows .entry)) (instructionOf (description (now (desc .entry)) layout) context (now (code .entry))) ⌝ }
+    ensures { λ r. ⌜ Decodes (description (now (desc .entry)) layout) context (now (code .entry)) (now (rows .entry)) r (now (rows .exit)) ⌝ }
 {
-    let starts = tables::starts(desc, layout);
-    let mut scratch = [0i64; walking::SCRATCH];
-    let walked = walking::walk_root(desc, layout, &starts, context, code, &mut scratch);
+    let mut fixed = setting::fill(desc, layout, false);
+    let found = walking::decode_at(desc, &mut fixed, context, code, 0);
+    let walked = found.walked;
     match walked {
         Walked::Refused(refusal) => Decoded::Refused(refusal),
-        Walked::Done { used, length: _ } => {
+        Walked::Done { state, length: _ } => {
+            let used = state.used;
             if rows.len() < format::ROW_NUMBERS * used {
                 return Decoded::NoRoom;
             }
-            hand_out(&scratch, used, rows);
+            let scratch = found.rows;
+            copy_rows(&scratch, used, rows);
             Decoded::Done(used)
         }
     }
@@ -59,9 +59,9 @@ pub fn decode(desc: &[u8], context: u32, code: &[u8], rows: &mut [i64]) -> Decod
     ensures { λ r. ⌜ r ≡ decodeOf (now (desc .entry)) context (now (code .entry)) (length (now (rows .entry))) ⌝ }
     ensures { λ _. ⌜ now (rows .exit) ≡ rowsAfter (now (desc .entry)) context (now (code .entry)) (now (rows .entry)) ⌝ }
 {
-    let checked = description::check(desc);
-    match checked {
-        Checked::Good(layout) => decode_in(desc, layout, context, code, rows),
-        Checked::Fault { section, record } => Decoded::Malformed { section, record },
+    let acceptance = acceptance::accept(desc);
+    match acceptance {
+        Acceptance::Accepted(layout) => decode_in(desc, layout, context, code, rows),
+        Acceptance::Rejected(rejection) => Decoded::Rejected(rejection),
     }
 }

@@ -44,7 +44,7 @@ mutual
   plain-all none = refl
   plain-all (more n f) = plain-append (sizedOf n) (sizedOfAll f) ∙ rw (plain-rows n, plain-all f)
 
-plain-length : (rs : List SizedRow) → length (plain rs) ≡ length rs
+pub plain-length : (rs : List SizedRow) → length (plain rs) ≡ length rs
 plain-length [] = refl
 plain-length (r ∷ rs) = let e = plain-length rs in omega arith
 
