@@ -1,3 +1,3 @@
--- What the listing program prints (document 01, "Description S and its answers", the program).
-pub mod Listing
-pub mod Lining
+-- One line of a listing (document 01, "Description S and its answers", the program).
+pub mod Line
+pub mod Put

@@ -1,85 +1,47 @@
-// The lines of a listing: the input taken apart, a line and the place of the next one.
-use format::Layout;
-use instruction::Refusal;
+// One line of a listing: the address, then the instruction's text, or what stands for it.
+use acceptance::Rejection;
+use decoding_spec::Refusal;
 use printing::Printed;
+use setting::FIXED;
 use text::Line;
 use walking::Walked;
 ghost use mathlib.Core.List.{List, [], _∷_, _++_};
 ghost use mathlib.Core.Path.{_≡_};
-ghost use Prim.Native.Nat.{suc, _+_, _%_, _<_, _≤_, min};
-ghost use lib.ListN.{length, getD, take};
+ghost use Prim.Native.Nat.{suc, _+_, _%_, _<_, _≤_};
+ghost use lib.ListN.{length, getD};
 ghost use Rattle.format.specs.Numbers.{longestText, mostRows};
-ghost use Rattle.format.specs.Check.{Formed};
-ghost use Rattle.format.specs.Description.{description};
-ghost use Rattle.tables.specs.Starts.{Starts};
-ghost use Rattle.walking.specs.Scratch.{scratchLength};
 ghost use Rattle.printing.specs.Numerals.{digitOf, digitsOf};
-ghost use Rattle.printing.specs.Writing.{over};
-ghost use Rattle.listing_lines.specs.Listing.{mostCode, hexDigits, byteText, isShort, refusedText, refusedNext, fitting, shownAt, nextAt, lineOf, lineAt, faultLine};
+ghost use Rattle.setting.specs.Fixed.{Fixed, settingIn};
 ghost use Rattle.text.specs.Places.{textAt, Sound};
-ghost use Rattle.listing_lines.specs.Lining.{lineBytes, Splits, Put, Moves};
+ghost use Rattle.walking.specs.Walks.{toldLength};
+ghost use Rattle.listing_lines.specs.Line.{hexDigits, byteText, refusedText, refusedNext, fitting, lineText, listingLine, faultLine};
+ghost use Rattle.listing_lines.specs.Put.{Put, Appended, PlaceOf, Shows, ShowsText};
 
-// The description is input[start..end], the code input[end..last].
-pub struct Split {
-    pub start: usize,
-    pub end: usize,
-    pub last: usize,
-}
-
-// Where the listing goes on.
-pub enum Place {
-    At(usize),
-    End,
-}
-
-// A line's bytes, and where the next one stands.
-pub struct Listed {
-    pub size: usize,
-    pub next: Place,
-}
-
-// The bytes of code that are listed at most; of the whole input: the length's two, a description's, the code's; and of a line: the
-// address, a colon, a blank, a text and the line's end.
-pub const CODE: usize = 4096;
-
-pub const INPUT: usize = 2 + 65535 + CODE;
-
+// The bytes of a line at most: the address, a colon, a blank, a text and the line's end.
 pub const LINE: usize = 8 + 2 + format::TEXT + 1;
 
-fn smaller(a: usize, b: usize) -> usize
-    ensures { λ r. ⌜ r ≡ min a b ⌝ }
-{
-    if a < b {
-        return a;
-    }
-    b
+// A line with zeros behind it, its size, and where the next one stands.
+pub struct ListingLine {
+    pub bytes: [u8; LINE],
+    pub size: usize,
+    pub next: usize,
 }
 
-pub fn take_apart(input: &[u8]) -> Split
-    ensures { λ r. ⌜ Splits (now (input .entry)) r ⌝ }
-{
-    let n = input.len();
-    if n < 2 {
-        return Split {
-            start: n,
-            end: n,
-            last: n,
-        };
-    }
-    let long = format::word(input, 0) as usize;
-    let end = smaller(2 + long, n);
-    let last = smaller(end + CODE, n);
-    Split {
-        start: 2,
-        end,
-        last,
-    }
+pub struct FaultLine {
+    pub bytes: [u8; LINE],
+    pub size: usize,
+}
+
+// The bytes shown at a place, and the next place.
+pub struct Shown {
+    pub size: usize,
+    pub next: usize,
 }
 
 // So many bytes behind those already written.
 fn append(src: &[u8], out: &mut [u8], at: usize) -> usize
     requires { ⌜ at + length (now src) ≤ length (now out) ⌝ }
-    ensures { λ r. ⌜ (r ≡ at + length (now (src .entry))) × (now (out .exit) ≡ over (take at (now (out .entry)) ++ now (src .entry)) (now (out .entry))) ⌝ }
+    ensures { λ r. ⌜ Appended at (now (src .entry)) (now (out .entry)) (now (out .exit)) r ⌝ }
 {
     printing::put_bytes(src, &mut out[at..]);
     at + src.len()
@@ -118,26 +80,12 @@ fn address(at: usize) -> [u8; 10]
 
 fn put_line(shown: &[u8], at: usize, line: &mut [u8]) -> usize
     requires { ⌜ length (now shown) + 11 ≤ length (now line) ⌝ }
-    ensures { λ r. ⌜ Put (lineOf at (now (shown .entry))) (now (line .entry)) (now (line .exit)) r ⌝ }
+    ensures { λ r. ⌜ Put (lineText at (now (shown .entry))) (now (line .entry)) (now (line .exit)) r ⌝ }
 {
     let head = address(at);
     let body = append(&head, line, 0);
     let end = append(shown, line, body);
     append(b"\n", line, end)
-}
-
-fn is_short(refusal: Refusal) -> bool
-    ensures { λ r. ⌜ r ≡ isShort refusal ⌝ }
-{
-    match refusal {
-        Refusal::Short(_) => true,
-        Refusal::NoMatch { place: _, table: _ } => false,
-        Refusal::Ambiguous { place: _, table: _ } => false,
-        Refusal::Hole(_) => false,
-        Refusal::Far(_) => false,
-        Refusal::ManyRows => false,
-        Refusal::Empty => false,
-    }
 }
 
 fn byte_text(byte: u8) -> [u8; 10]
@@ -158,93 +106,95 @@ fn byte_text(byte: u8) -> [u8; 10]
     ]
 }
 
-// A place that gives no instruction.
-fn show_refusal(refusal: Refusal, byte: u8, at: usize, out: &mut [u8]) -> Listed
-    requires { ⌜ (10 ≤ length (now out)) × (at < mostCode) ⌝ }
-    ensures { λ r. ⌜ Put (refusedText byte refusal) (now (out .entry)) (now (out .exit)) (r .size) × (r .next ≡ refusedNext at refusal) ⌝ }
+// A place that gives no instruction, in code of so many bytes.
+fn show_refusal(refusal: Refusal, byte: u8, at: usize, end: usize, out: &mut [u8]) -> Shown
+    requires { ⌜ (10 ≤ length (now out)) × (at < end) ⌝ }
+    ensures { λ r. ⌜ Put (refusedText byte refusal) (now (out .entry)) (now (out .exit)) (r .size) × (r .next ≡ refusedNext at end refusal) ⌝ }
 {
-    if is_short(refusal) {
-        return Listed {
+    if decoding_spec::is_short(refusal) {
+        return Shown {
             size: append(b".short", out, 0),
-            next: Place::End,
+            next: end,
         };
     }
     let text = byte_text(byte);
-    Listed {
+    Shown {
         size: append(&text, out, 0),
-        next: Place::At(at + 1),
+        next: at + 1,
     }
 }
 
 // An instruction's text, or that it is too long for a line.
-fn show_text(desc: &[u8], layout: Layout, scratch: &[i64], used: usize, out: &mut [u8]) -> usize
-    requires { ⌜ Formed (now desc) layout ⌝ }
-    requires { ⌜ Sound (description (now desc) layout) (now scratch) used ⌝ }
+fn show_text(
+    desc: &[u8],
+    fixed: &[usize; FIXED],
+    rows: &[i64],
+    used: usize,
+    out: &mut [u8],
+) -> usize
+    requires { ⌜ Fixed (now desc) (now fixed) ⌝ }
+    requires { ⌜ Sound (settingIn (now desc) (now fixed) .description) (now rows) used ⌝ }
     requires { ⌜ (0 < used) × (length (now out) ≡ longestText) ⌝ }
-    ensures { λ r. ⌜ Put (fitting (textAt (description (now (desc .entry)) layout) (now (scratch .entry)) (suc mostRows) 0)) (now (out .entry)) (now (out .exit)) r ⌝ }
+    ensures { λ r. ⌜ ShowsText (now (desc .entry)) (now (fixed .entry)) (now (rows .entry)) (now (out .entry)) (now (out .exit)) r ⌝ }
 {
-    let line = text::print_text(desc, layout, scratch, used, out);
+    let line = text::print_text(desc, fixed, rows, used, out);
     match line {
         Line::Written(count) => count,
-        Line::Long => append(b".long", out, 0),
+        Line::TextTooLong => append(b".long", out, 0),
         Line::NoRoom => 0,
     }
 }
 
 fn show(
     desc: &[u8],
-    layout: Layout,
-    starts: &[usize; tables::STARTS],
+    fixed: &mut [usize; FIXED],
+    context: u32,
     code: &[u8],
     at: usize,
-    scratch: &mut [i64],
     out: &mut [u8],
-) -> Listed
-    requires { ⌜ Formed (now desc) layout ⌝ }
-    requires { ⌜ Starts (description (now desc) layout) (now starts) ⌝ }
-    requires { ⌜ (at < length (now code)) × (length (now code) ≤ mostCode) ⌝ }
-    requires { ⌜ (length (now scratch) ≡ scratchLength) × (length (now out) ≡ longestText) ⌝ }
-    ensures { λ r. ⌜ Put (shownAt (description (now (desc .entry)) layout) (now (code .entry)) at) (now (out .entry)) (now (out .exit)) (r .size) × (r .next ≡ nextAt (description (now (desc .entry)) layout) (now (code .entry)) at) ⌝ }
+) -> Shown
+    requires { ⌜ PlaceOf (now desc) (now fixed) (now code) at × (length (now out) ≡ longestText) ⌝ }
+    ensures { λ r. ⌜ Shows (now (desc .entry)) (now (fixed .entry)) (now (code .entry)) context at (now (out .entry)) r (now (out .exit)) (now (fixed .exit)) ⌝ }
 {
-    let walked = walking::walk_root(desc, layout, starts, 0, &code[at..], scratch);
+    let found = walking::decode_at(desc, fixed, context, code, at);
+    let walked = found.walked;
     match walked {
-        Walked::Refused(refusal) => show_refusal(refusal, code[at], at, out),
-        Walked::Done { used, length } => Listed {
-            size: show_text(desc, layout, scratch, used, out),
-            next: Place::At(at + length),
-        },
+        Walked::Refused(refusal) => show_refusal(refusal, code[at], at, code.len(), out),
+        Walked::Done { state, length } => {
+            let rows = found.rows;
+            Shown {
+                size: show_text(desc, fixed, &rows, state.used, out),
+                next: at + length,
+            }
+        }
     }
 }
 
-// The line at a place of the code, and the next place.
-pub fn next_line(
+// The line at a place of the code.
+pub fn line_at(
     desc: &[u8],
-    layout: Layout,
-    starts: &[usize; tables::STARTS],
+    fixed: &mut [usize; FIXED],
+    context: u32,
     code: &[u8],
     at: usize,
-    scratch: &mut [i64],
-    line: &mut [u8],
-) -> Listed
-    requires { ⌜ Formed (now desc) layout ⌝ }
-    requires { ⌜ Starts (description (now desc) layout) (now starts) ⌝ }
-    requires { ⌜ (at < length (now code)) × (length (now code) ≤ mostCode) ⌝ }
-    requires { ⌜ (length (now scratch) ≡ scratchLength) × (length (now line) ≡ lineBytes) ⌝ }
-    ensures { λ r. ⌜ Put (lineAt (description (now (desc .entry)) layout) (now (code .entry)) at) (now (line .entry)) (now (line .exit)) (r .size) ⌝ }
-    ensures { λ r. ⌜ (r .next ≡ nextAt (description (now (desc .entry)) layout) (now (code .entry)) at) × Moves at (length (now (code .entry))) (r .next) ⌝ }
+) -> ListingLine
+    requires { ⌜ PlaceOf (now desc) (now fixed) (now code) at ⌝ }
+    ensures { λ r. ⌜ r ≡ listingLine (settingIn (now (desc .entry)) (now (fixed .entry)) .description) context (now (code .entry)) at ⌝ }
+    ensures { λ _. ⌜ now (fixed .exit) ≡ toldLength (now (fixed .entry)) (now (code .entry)) at ⌝ }
 {
     let mut shown = [0u8; format::TEXT];
-    let found = show(desc, layout, starts, code, at, scratch, &mut shown);
+    let found = show(desc, fixed, context, code, at, &mut shown);
     let count = found.size;
     let next = found.next;
-    let size = put_line(&shown[..count], at, line);
-    Listed { size, next }
+    let mut bytes = [0u8; LINE];
+    let size = put_line(&shown[..count], at, &mut bytes);
+    ListingLine { bytes, size, next }
 }
 
 // A decimal number behind the bytes already written.
 fn append_number(n: usize, out: &mut [u8], at: usize) -> usize
     requires { ⌜ at + 20 ≤ length (now out) ⌝ }
-    ensures { λ r. ⌜ (r ≡ at + length (digitsOf 10 n)) × (now (out .exit) ≡ over (take at (now (out .entry)) ++ digitsOf 10 n) (now (out .entry))) ⌝ }
+    ensures { λ r. ⌜ Appended at (digitsOf 10 n) (now (out .entry)) (now (out .exit)) r ⌝ }
 {
     let put = printing::put_decimal(n as u64, &mut out[at..]);
     match put {
@@ -254,13 +204,14 @@ fn append_number(n: usize, out: &mut [u8], at: usize) -> usize
 }
 
 // The one line of a bad description.
-pub fn fault_line(section: usize, number: usize, line: &mut [u8]) -> usize
-    requires { ⌜ length (now line) ≡ lineBytes ⌝ }
-    ensures { λ r. ⌜ Put (faultLine section number) (now (line .entry)) (now (line .exit)) r ⌝ }
+pub fn fault_line(rejection: Rejection) -> FaultLine
+    ensures { λ r. ⌜ r ≡ faultLine rejection ⌝ }
 {
-    let a = append(b"malformed ", line, 0);
-    let b = append_number(section, line, a);
-    let c = append(b" ", line, b);
-    let d = append_number(number, line, c);
-    append(b"\n", line, d)
+    let mut bytes = [0u8; LINE];
+    let a = append(b"malformed ", &mut bytes, 0);
+    let b = append_number(acceptance::first_value(rejection), &mut bytes, a);
+    let c = append(b" ", &mut bytes, b);
+    let d = append_number(acceptance::second_value(rejection), &mut bytes, c);
+    let size = append(b"\n", &mut bytes, d);
+    FaultLine { bytes, size }
 }

@@ -1,0 +1,90 @@
+-- One line of a listing, as a list of bytes.
+use Prim.Native.Nat.{ℕ, zero, suc, _+_, _/_, _%_}
+use mathlib.Core.Bool.{cond}
+use mathlib.Core.List.{List, [], _∷_, _++_}
+use lib.Dec.{leb}
+use lib.ListN.{length, getD, drop, replicate}
+use Rattle.format.specs.Numbers.{longestText}
+use Rattle.format.specs.Description.{Description}
+use Rattle.acceptance.specs.Acceptance.{firstValue, secondValue}
+use Rattle.acceptance.specs.declared.Rejection.{Rejection}
+use Rattle.printing.specs.Numerals.{digitOf, digitsOf}
+use Rattle.printing.specs.Writing.{over}
+use Rattle.decoding_spec.specs.Refusals.{isShort}
+use Rattle.decoding_spec.specs.Tree.{Node}
+use Rattle.decoding_spec.specs.Walk.{Result, done, refused, instructionOf}
+use Rattle.decoding_spec.specs.declared.Refusal.{Refusal}
+use Rattle.text.specs.Text.{textOf}
+use Rattle.listing_lines.specs.declared.ListingLine.{ListingLine}
+use Rattle.listing_lines.specs.declared.FaultLine.{FaultLine}
+
+-- so many lower-case hex digits
+unfoldable pub hexDigits : ℕ → ℕ → List ℕ
+hexDigits zero n = []
+hexDigits (suc k) n = hexDigits k (n / 16) ++ (digitOf (n % 16) ∷ [])
+
+-- ".byte 0x", ".short", ".long", "malformed "
+abbrev pub byteWord : List ℕ
+byteWord = 46 ∷ 98 ∷ 121 ∷ 116 ∷ 101 ∷ 32 ∷ 48 ∷ 120 ∷ []
+
+abbrev pub shortWord : List ℕ
+shortWord = 46 ∷ 115 ∷ 104 ∷ 111 ∷ 114 ∷ 116 ∷ []
+
+abbrev pub longWord : List ℕ
+longWord = 46 ∷ 108 ∷ 111 ∷ 110 ∷ 103 ∷ []
+
+abbrev pub malformedWord : List ℕ
+malformedWord = 109 ∷ 97 ∷ 108 ∷ 102 ∷ 111 ∷ 114 ∷ 109 ∷ 101 ∷ 100 ∷ 32 ∷ []
+
+-- "A .byte has two digits always": of the byte at the place
+unfoldable pub byteText : ℕ → List ℕ
+byteText byte = byteWord ++ hexDigits 2 byte
+
+abbrev pub refusedText : ℕ → Refusal → List ℕ
+refusedText byte r = cond (isShort r) shortWord (byteText byte)
+
+-- "Text over 256 prints ".long"."
+abbrev pub fitting : List ℕ → List ℕ
+fitting w = cond (leb (length w) longestText) w longWord
+
+abbrev pub shownBy : Description → ℕ → Result Node → List ℕ
+shownBy d byte (done n l st) = fitting (textOf d n)
+shownBy d byte (refused r) = refusedText byte r
+
+-- a place that is no instruction is one byte long; "short" ends the listing, so that it goes on at the code's end
+abbrev pub refusedNext : ℕ → ℕ → Refusal → ℕ
+refusedNext at end r = cond (isShort r) end (at + 1)
+
+abbrev pub nextBy : ℕ → ℕ → Result Node → ℕ
+nextBy at end (done n l st) = at + l
+nextBy at end (refused r) = refusedNext at end r
+
+-- what is shown at a place of the code s, in the context c, and the next place
+unfoldable pub shownAt : Description → ℕ → List ℕ → ℕ → List ℕ
+shownAt d c s at = shownBy d (getD s at 0) (instructionOf d c (drop at s))
+
+unfoldable pub nextAt : Description → ℕ → List ℕ → ℕ → ℕ
+nextAt d c s at = nextBy at (length s) (instructionOf d c (drop at s))
+
+-- the address as eight digits, a colon and a blank; what is shown; the line's end
+unfoldable pub lineText : ℕ → List ℕ → List ℕ
+lineText at shown = hexDigits 8 at ++ (58 ∷ 32 ∷ []) ++ shown ++ (10 ∷ [])
+
+unfoldable pub lineAt : Description → ℕ → List ℕ → ℕ → List ℕ
+lineAt d c s at = lineText at (shownAt d c s at)
+
+-- "A bad description prints one line, as "malformed 6 65535"."
+unfoldable pub faultText : Rejection → List ℕ
+faultText x = malformedWord ++ digitsOf 10 (firstValue x) ++ (32 ∷ []) ++ digitsOf 10 (secondValue x) ++ (10 ∷ [])
+
+-- room for the longest line: eight digits, a colon and a blank, a text, the line's end
+abbrev pub lineBytes : ℕ
+lineBytes = 8 + 2 + longestText + 1
+
+-- a line in a buffer of its own, with zeros behind it, and the next place
+unfoldable pub listingLine : Description → ℕ → List ℕ → ℕ → ListingLine
+listingLine d c s at =
+    record { bytes = over (lineAt d c s at) (replicate lineBytes 0); size = length (lineAt d c s at); next = nextAt d c s at }
+
+unfoldable pub faultLine : Rejection → FaultLine
+faultLine x = record { bytes = over (faultText x) (replicate lineBytes 0); size = length (faultText x) }

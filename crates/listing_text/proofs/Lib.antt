@@ -1,0 +1,5 @@
+-- Laws of the listing.
+pub mod Moving
+pub mod Joined
+mod Going
+mod Splitting
