@@ -3,6 +3,7 @@ ghost use mathlib.Core.Path.{_≡_};
 ghost use Prim.Native.Nat.{_+_, _<_, _≤_};
 ghost use lib.ListN.{length};
 ghost use Rattle.format.specs.Bytes.{wordAt, longAt, quadAt};
+ghost use Rattle.format.specs.Numbers.{fieldBytes, nameBytes, constructorBytes, operandBytes, pieceBytes, letterBytes};
 ghost use Rattle.format.specs.Record.{fieldRead, nameRead, patternAt, constructorRead, operandRead, pieceRead, letterRead};
 ghost use Rattle.format.specs.Layout.{sectionAt};
 
@@ -31,6 +32,24 @@ pub const OPERAND_BYTES: u8 = 4;
 pub const PIECE_BYTES: u8 = 4;
 
 pub const LETTER_BYTES: u8 = 1;
+
+// A field's bytes at most; the look that shows names, and the bits of a field that has it at most.
+pub const WIDEST: u8 = 4;
+
+pub const NAMES_LOOK: u8 = 4;
+
+pub const NAMES_BITS: usize = 8;
+
+// A letter of the text lies between these.
+pub const FIRST_LETTER: u8 = 32;
+
+pub const LAST_LETTER: u8 = 126;
+
+// How many values a byte has.
+pub const BYTE_VALUES: usize = 256;
+
+// The bytes that a pattern masks at most.
+pub const PATTERN_BYTES: u8 = 8;
 
 // Tables are numbered below TABLES. An instruction has LONGEST bytes at most.
 pub const TABLES: u8 = 64;
@@ -205,7 +224,7 @@ pub fn quad(s: &[u8], at: usize) -> u64
 
 // The pattern of the constructor at this place.
 pub fn pattern_at(s: &[u8], at: usize) -> Pattern
-    requires { ⌜ at + 32 ≤ length (now s) ⌝ }
+    requires { ⌜ at + constructorBytes ≤ length (now s) ⌝ }
     ensures { λ r. ⌜ r ≡ patternAt (now (s .entry)) at ⌝ }
 {
     Pattern {
@@ -246,7 +265,7 @@ impl Cursor {
     }
 
     pub fn field(self, s: &[u8]) -> FieldRead
-        requires { ⌜ self .at + 8 ≤ length (now s) ⌝ }
+        requires { ⌜ self .at + fieldBytes ≤ length (now s) ⌝ }
         ensures { λ r. ⌜ r ≡ fieldRead (now (s .entry)) (self .at) ⌝ }
     {
         let at = self.at;
@@ -261,12 +280,14 @@ impl Cursor {
         };
         FieldRead {
             field,
-            next: Cursor { at: at + 8 },
+            next: Cursor {
+                at: at + (FIELD_BYTES as usize),
+            },
         }
     }
 
     pub fn name(self, s: &[u8]) -> NameRead
-        requires { ⌜ self .at + 3 ≤ length (now s) ⌝ }
+        requires { ⌜ self .at + nameBytes ≤ length (now s) ⌝ }
         ensures { λ r. ⌜ r ≡ nameRead (now (s .entry)) (self .at) ⌝ }
     {
         let at = self.at;
@@ -276,12 +297,14 @@ impl Cursor {
         };
         NameRead {
             name,
-            next: Cursor { at: at + 3 },
+            next: Cursor {
+                at: at + (NAME_BYTES as usize),
+            },
         }
     }
 
     pub fn constructor(self, s: &[u8]) -> ConstructorRead
-        requires { ⌜ self .at + 32 ≤ length (now s) ⌝ }
+        requires { ⌜ self .at + constructorBytes ≤ length (now s) ⌝ }
         ensures { λ r. ⌜ r ≡ constructorRead (now (s .entry)) (self .at) ⌝ }
     {
         let at = self.at;
@@ -303,12 +326,14 @@ impl Cursor {
         };
         ConstructorRead {
             constructor,
-            next: Cursor { at: at + 32 },
+            next: Cursor {
+                at: at + (CONSTRUCTOR_BYTES as usize),
+            },
         }
     }
 
     pub fn operand(self, s: &[u8]) -> OperandRead
-        requires { ⌜ self .at + 4 ≤ length (now s) ⌝ }
+        requires { ⌜ self .at + operandBytes ≤ length (now s) ⌝ }
         ensures { λ r. ⌜ r ≡ operandRead (now (s .entry)) (self .at) ⌝ }
     {
         let at = self.at;
@@ -320,12 +345,14 @@ impl Cursor {
         };
         OperandRead {
             operand,
-            next: Cursor { at: at + 4 },
+            next: Cursor {
+                at: at + (OPERAND_BYTES as usize),
+            },
         }
     }
 
     pub fn piece(self, s: &[u8]) -> PieceRead
-        requires { ⌜ self .at + 4 ≤ length (now s) ⌝ }
+        requires { ⌜ self .at + pieceBytes ≤ length (now s) ⌝ }
         ensures { λ r. ⌜ r ≡ pieceRead (now (s .entry)) (self .at) ⌝ }
     {
         let at = self.at;
@@ -336,18 +363,22 @@ impl Cursor {
         };
         PieceRead {
             piece,
-            next: Cursor { at: at + 4 },
+            next: Cursor {
+                at: at + (PIECE_BYTES as usize),
+            },
         }
     }
 
     pub fn letter(self, s: &[u8]) -> LetterRead
-        requires { ⌜ self .at < length (now s) ⌝ }
+        requires { ⌜ self .at + letterBytes ≤ length (now s) ⌝ }
         ensures { λ r. ⌜ r ≡ letterRead (now (s .entry)) (self .at) ⌝ }
     {
         let at = self.at;
         LetterRead {
             letter: s[at],
-            next: Cursor { at: at + 1 },
+            next: Cursor {
+                at: at + (LETTER_BYTES as usize),
+            },
         }
     }
 }
