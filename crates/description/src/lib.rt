@@ -12,7 +12,7 @@ ghost use Rattle.format.specs.Layout.{Room};
 ghost use Rattle.format.specs.Description.{description, piecesOf, noPiece};
 ghost use Rattle.format.specs.Rules.{pieceOk, letterOk};
 ghost use Rattle.format.specs.Check.{allGood, badField, badName, badConstructor, badOperand, badPiece, badLetter, partFault, faultOf, checkOf};
-ghost use Rattle.rules.specs.Marks.{Marked};
+ghost use Rattle.rules.specs.Judging.{Marked};
 
 // The first faulty record of each section, or its count. The cursor goes from record to record.
 fn bad_field(desc: &[u8], layout: Layout) -> usize

@@ -10,7 +10,8 @@ use lib.Dec.{leb, eqb}
 use lib.ListN.{length}
 use Rattle.lists.proofs.Bools.{and4}
 use Rattle.format.specs.Bytes.{wordAt}
-use Rattle.format.specs.Layout.{Room, next, endOr, sectionAt, layoutOf, namesFrom, constructorsFrom, operandsFrom, piecesFrom, textFrom}
+use Rattle.format.specs.Numbers.{countBytes}
+use Rattle.format.specs.Layout.{Room, inside, next, endOr, sectionAt, layoutOf, namesFrom, constructorsFrom, operandsFrom, piecesFrom, textFrom}
 use Rattle.format.specs.declared.Section.{Section}
 use Rattle.format.specs.declared.Cursor.{Cursor}
 use Rattle.format.specs.declared.Layout.{Layout}
@@ -21,7 +22,7 @@ use Rattle.format.specs.declared.Laid.the-variants.{At, Fault}
 
 -- what a count that was found says of its section
 pub record Placed (b : List ℕ) (least most size : ℕ) (s : Section) : Type 0 where
-  pub inside : s .start + size * s .count ≤ length b
+  pub fits : inside b size s
   pub enough : least ≤ s .count
   pub few : s .count ≤ most
 
@@ -41,17 +42,17 @@ passed b k at least most size more l e = go _ refl e
     n = wordAt b at
 
     go : (t : Bool)
-        → (leb (at + 2) (length b) && leb least n && leb n most && leb (at + 2 + n * size) (length b)) ≡ t
-        → next k (cond t (Found (record { start = at + 2; count = n }) (record { at = at + 2 + n * size })) Missing) more ≡ At l
+        → (leb (at + countBytes) (length b) && leb least n && leb n most && leb (at + countBytes + n * size) (length b)) ≡ t
+        → next k (cond t (Found (record { start = at + countBytes; count = n }) (record { at = at + countBytes + n * size })) Missing) more ≡ At l
         → Passed b least most size more l
     go true p q =
-        let f = and4 (leb (at + 2) (length b)) (leb least n) (leb n most) (leb (at + 2 + n * size) (length b)) p in
+        let f = and4 (leb (at + countBytes) (length b)) (leb least n) (leb n most) (leb (at + countBytes + n * size) (length b)) p in
         record {
-          section = record { start = at + 2; count = n };
-          at = at + 2 + n * size;
+          section = record { start = at + countBytes; count = n };
+          at = at + countBytes + n * size;
           placed =
               record {
-                inside = omega (arith, mul-comm n size, leb-true (at + 2 + n * size) (length b) (f .3));
+                fits = omega (arith, mul-comm n size, leb-true (at + countBytes + n * size) (length b) (f .3));
                 enough = leb-true least n (f .1);
                 few = leb-true n most (f .2);
               };
@@ -88,12 +89,12 @@ laid-room b l e =
     let text = passed b 6 _ _ _ _ _ l (pieces .rest) in
     end-keeps b (λ l at. Fault 6) (fault-keeps b 6) _ l (text .at)
     (record {
-      fields = fields .placed .inside;
-      names = names .placed .inside;
-      constructors = constructors .placed .inside;
-      operands = operands .placed .inside;
-      pieces = pieces .placed .inside;
-      text = text .placed .inside;
+      fields = fields .placed .fits;
+      names = names .placed .fits;
+      constructors = constructors .placed .fits;
+      operands = operands .placed .fits;
+      pieces = pieces .placed .fits;
+      text = text .placed .fits;
       some = constructors .placed .enough;
       few = constructors .placed .few;
     })

@@ -5,7 +5,7 @@ use mathlib.Core.List.{List}
 use lib.Dec.{leb, eqb}
 use lib.ListN.{length}
 use Rattle.format.specs.Bytes.{wordAt}
-use Rattle.format.specs.Numbers.{mostFields, mostNames, leastConstructors, mostConstructors, mostOperands, mostPieces, mostLetters, fieldBytes, nameBytes, constructorBytes, operandBytes, pieceBytes, letterBytes}
+use Rattle.format.specs.Numbers.{countBytes, mostFields, mostNames, leastConstructors, mostConstructors, mostOperands, mostPieces, mostLetters, fieldBytes, nameBytes, constructorBytes, operandBytes, pieceBytes, letterBytes}
 use Rattle.format.specs.declared.Section.{Section}
 use Rattle.format.specs.declared.Layout.{Layout}
 use Rattle.format.specs.declared.Counted.{Counted}
@@ -17,9 +17,9 @@ use Rattle.format.specs.declared.Laid.the-variants.{At, Fault}
 unfoldable pub sectionAt : List ℕ → ℕ → ℕ → ℕ → ℕ → Counted
 sectionAt b at least most size =
     cond
-    (leb (at + 2) (length b) && leb least (wordAt b at) && leb (wordAt b at) most
-    && leb (at + 2 + wordAt b at * size) (length b))
-    (Found (record { start = at + 2; count = wordAt b at }) (record { at = at + 2 + wordAt b at * size }))
+    (leb (at + countBytes) (length b) && leb least (wordAt b at) && leb (wordAt b at) most
+    && leb (at + countBytes + wordAt b at * size) (length b))
+    (Found (record { start = at + countBytes; count = wordAt b at }) (record { at = at + countBytes + wordAt b at * size }))
     Missing
 
 -- section k, and what comes after it

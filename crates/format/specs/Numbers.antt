@@ -22,7 +22,10 @@ mostPieces = 4096
 abbrev pub mostLetters : ℕ
 mostLetters = 8192
 
--- a record's bytes
+-- "each after its count (two bytes)", and a record's bytes
+abbrev pub countBytes : ℕ
+countBytes = 2
+
 abbrev pub fieldBytes : ℕ
 fieldBytes = 8
 

@@ -20,7 +20,9 @@ pub const PIECES: u16 = 4096;
 
 pub const LETTERS: u16 = 8192;
 
-// A record's bytes.
+// A count's bytes, and a record's.
+pub const COUNT_BYTES: usize = 2;
+
 pub const FIELD_BYTES: u8 = 8;
 
 pub const NAME_BYTES: u8 = 3;
@@ -241,14 +243,14 @@ impl Cursor {
         ensures { λ r. ⌜ r ≡ sectionAt (now (s .entry)) (self .at) least most size ⌝ }
     {
         let at = self.at;
-        if s.len() < 2 {
+        if s.len() < COUNT_BYTES {
             return Counted::Missing;
         }
-        if s.len() - 2 < at {
+        if s.len() - COUNT_BYTES < at {
             return Counted::Missing;
         }
         let n = word(s, at);
-        let start = at + 2;
+        let start = at + COUNT_BYTES;
         let end = start + (n as usize) * (size as usize);
         let whole = (least <= n) & (n <= most) & (end <= s.len());
         if whole {

@@ -11,7 +11,7 @@ use Rattle.format.specs.Description.{Description}
 use Rattle.format.specs.Rules.{tableOk, minimumOk, valueOk, rangeOk, shapeOk}
 use Rattle.format.specs.declared.Constructor.{Constructor}
 use Rattle.format.specs.declared.Range.{Range}
-use Rattle.rules.specs.Marks.{Ranged, Shaped}
+use Rattle.rules.specs.Judging.{Ranged, Shaped}
 
 ranged : (most count : ℕ) (r : Range) → rangeOk most count r ≡ true → Ranged most count r
 ranged most count r e =
@@ -27,9 +27,9 @@ module _ (d : Description) (i : ℕ) (c : Constructor) (e : shapeOk d i c ≡ tr
   pub shape-holds : Shaped (length (d .operands)) (length (d .pieces)) c
   unfolding shapeOk front
   shape-holds =
-      let operands = rangeOk operandsEach (length (d .operands)) (c .operands) in
-      let pieces = rangeOk piecesEach (length (d .pieces)) (c .pieces) in
+      let first = rangeOk operandsEach (length (d .operands)) (c .operands) in
+      let last = rangeOk piecesEach (length (d .pieces)) (c .pieces) in
       record {
-        shown = ranged operandsEach (length (d .operands)) (c .operands) (and-right front operands (and-left (front && operands) pieces e));
-        pieced = ranged piecesEach (length (d .pieces)) (c .pieces) (and-right (front && operands) pieces e);
+        operands = ranged operandsEach (length (d .operands)) (c .operands) (and-right front first (and-left (front && first) last e));
+        pieces = ranged piecesEach (length (d .pieces)) (c .pieces) (and-right (front && first) last e);
       }

@@ -17,7 +17,8 @@ ghost use Rattle.format.specs.Numbers.{namesBits, byteValues};
 ghost use Rattle.format.specs.Layout.{Room};
 ghost use Rattle.format.specs.Description.{description, fieldsOf};
 ghost use Rattle.format.specs.Rules.{sourceOk, bitsOk, lookOk, fieldOk, nameOk, tableOk, hasTable, minimumOk, valueOk, rangeOk, shapeOk, anchorFits, operandFits, pieceFits, constructorOk, fieldFits, operandOk, pieceOk, letterOk};
-ghost use Rattle.rules.specs.Marks.{Marks, Marked, Judging, Shaped, shownMarks};
+ghost use Rattle.rules.specs.Marks.{Marks, shownMarks};
+ghost use Rattle.rules.specs.Judging.{Marked, Judging, Shaped};
 
 // The marks of the operands shown so far.
 const SHOWN: u8 = 16;

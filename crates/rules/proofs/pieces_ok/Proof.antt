@@ -31,7 +31,7 @@ fits-is : (c : tie.After-piece-fits Inv-loop μ-loop) → c .before .before .bef
 fits-is c good =
     c .piece-fits .ensures
     ∙ piece-fits (description (c .before .before .before .before .before .before .before .before .args .desc .now) (c .before .before .before .before .before .before .before .before .args .layout)) (c .before .before .before .before .before .before .before .before .args .c) (c .before .before .before .before .loop .q)
-    (c .before .before .piece-at .result) (c .before .before .piece-at .ensures) (c .before .before .before .before .loop .shown) (c .before .before .before .before .before .before .before .before .pre .1 .shown .few) (c .before .before .before .before .loop .inv .3 good)
+    (c .before .before .piece-at .result) (c .before .before .piece-at .ensures) (c .before .before .before .before .loop .shown) (c .before .before .before .before .before .before .before .before .pre .1 .operands .few) (c .before .before .before .before .loop .inv .3 good)
 
 loop-holds : tie.Need-loop-holds Inv-loop μ-loop
 loop-holds c = (omega arith, refl, sym (all-none _), λ _. marks-none shownMarks (shows _ _))
@@ -47,7 +47,7 @@ loop-again c =
           let g = and-left good (c .before .before .piece-fits .result) t in
           marks-next shownMarks (c .before .before .before .before .before .before .loop .q) (c .before .before .before .before .piece-at .result .n % shownMarks) (eqb (c .before .before .before .before .piece-at .result .kind) 1) (c .before .before .before .before .before .before .loop .shown)
           (shows _ _) (omega arith) (omega arith)
-          (piece-shows _ _ (c .before .before .before .before .before .before .loop .q) (c .before .before .before .before .piece-at .result) (c .before .before .before .before .piece-at .ensures) (c .before .before .before .before .before .before .before .before .before .before .pre .1 .shown .few)
+          (piece-shows _ _ (c .before .before .before .before .before .before .loop .q) (c .before .before .before .before .piece-at .result) (c .before .before .before .before .piece-at .ensures) (c .before .before .before .before .before .before .before .before .before .before .pre .1 .operands .few)
           (sym (fits-is (c .before .before) g) ∙ and-right good (c .before .before .piece-fits .result) t))
           (inv .3 g),
     )

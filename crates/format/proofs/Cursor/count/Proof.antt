@@ -1,6 +1,7 @@
 use lib.ListN.{length}
 use Prim.Native.Nat.{_+_}
 use Rattle.format.proofs.Product.{small}
+use Rattle.format.specs.Numbers.{countBytes}
 use Rattle.format.specs.Layout.{sectionAt}
 use borrow.Author.Tests.{lt-leb, le-leb}
 use native.Mathlib.Omega.{arith}
@@ -10,11 +11,11 @@ use Rattle.format.proofs.Cursor.count.Tie as tie
 
 returns : tie.Need-returns
 unfolding sectionAt
-returns c = rw (lt-leb (c .before .before .args .self .at + 2) (length (c .before .before .args .s .now)) (omega arith))
+returns c = rw (lt-leb (c .before .before .args .self .at + countBytes) (length (c .before .before .args .s .now)) (omega arith))
 
 returns-2 : tie.Need-returns-2
 unfolding sectionAt
-returns-2 c = rw (lt-leb (c .before .before .before .args .self .at + 2) (length (c .before .before .before .args .s .now)) (omega arith))
+returns-2 c = rw (lt-leb (c .before .before .before .args .self .at + countBytes) (length (c .before .before .before .args .s .now)) (omega arith))
 
 mul-end : tie.Need-mul-end
 mul-end c = omega (arith, small (c .word .result) (c .before .before .before .before .args .size) (search needs) (search needs))
@@ -24,11 +25,11 @@ add-end c = omega (arith, small (c .word .result) (c .before .before .before .be
 
 returns-3 : tie.Need-returns-3
 unfolding sectionAt
-returns-3 c = rw (← c .before .word .ensures, le-leb (c .before .before .before .before .before .args .self .at + 2) (length (c .before .before .before .before .before .args .s .now)) (omega arith), c .if3 .taken)
+returns-3 c = rw (← c .before .word .ensures, le-leb (c .before .before .before .before .before .args .self .at + countBytes) (length (c .before .before .before .before .before .args .s .now)) (omega arith), c .if3 .taken)
 
 returns-4 : tie.Need-returns-4
 unfolding sectionAt
-returns-4 c = rw (← c .before .word .ensures, le-leb (c .before .before .before .before .before .args .self .at + 2) (length (c .before .before .before .before .before .args .s .now)) (omega arith), c .if3 .left)
+returns-4 c = rw (← c .before .word .ensures, le-leb (c .before .before .before .before .before .args .self .at + countBytes) (length (c .before .before .before .before .before .args .s .now)) (omega arith), c .if3 .left)
 
 pub count-spec : {M : Type 1} → statement M
 count-spec =
