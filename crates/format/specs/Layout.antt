@@ -98,5 +98,5 @@ pub record Room (b : List ℕ) (l : Layout) : Type 0 where
   pub operands : inside b operandBytes (l .operands)
   pub pieces : inside b pieceBytes (l .pieces)
   pub text : inside b letterBytes (l .text)
-  pub some : leastConstructors ≤ l .constructors .count
+  pub some : 1 ≤ l .constructors .count
   pub few : l .constructors .count ≤ mostConstructors

@@ -7,12 +7,14 @@ ghost use Rattle.format.specs.Numbers.{fieldBytes, nameBytes, constructo
 ghost use Rattle.format.specs.Record.{fieldRead, nameRead, patternAt, constructorRead, operandRead, pieceRead, letterRead};
 ghost use Rattle.format.specs.Layout.{sectionAt};
 
-// The most records that a section holds. Section 3 holds one at least.
+// The most records that a section holds, and the least that section 3 holds.
 pub const FIELDS: u16 = 256;
 
 pub const NAMES: u16 = 1024;
 
 pub const CONSTRUCTORS: u16 = 512;
+
+pub const LEAST_CONSTRUCTORS: u16 = 1;
 
 pub const OPERANDS: u16 = 2048;
 

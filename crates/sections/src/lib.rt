@@ -62,7 +62,7 @@ fn lay_constructors(desc: &[u8], layout: Layout, c: Cursor) -> Laid
     let mut layout = layout;
     let Counted::Found(constructors, next) = c.count(
         desc,
-        1,
+        format::LEAST_CONSTRUCTORS,
         format::CONSTRUCTORS,
         format::CONSTRUCTOR_BYTES,
     ) else {
