@@ -60,7 +60,7 @@ abbrev pub putText : Layout → Section → Layout
 putText l s =
     record { fields = l .fields; names = l .names; constructors = l .constructors; operands = l .operands; pieces = l .pieces; text = s }
 
--- a section without records, and the layout of nothing else
+-- a section without records, and a layout of six such
 abbrev pub empty : Section
 empty = record { start = 0; count = 0 }
 
