@@ -5,14 +5,14 @@ use format::Laid;
 use format::Layout;
 ghost use mathlib.Core.Path.{_≡_};
 ghost use Prim.Native.Nat.{_+_, _≤_};
-ghost use lib.ListN.{length, getD};
+ghost use lib.ListN.{length};
 ghost use Rattle.lists.specs.Below.{allBelow};
 ghost use Rattle.format.specs.Bytes.{byteAt};
 ghost use Rattle.format.specs.Layout.{Room};
 ghost use Rattle.format.specs.Description.{description, piecesOf, noPiece};
-ghost use Rattle.format.specs.Rules.{hasTable, pieceOk, letterOk};
-ghost use Rattle.format.specs.Check.{badField, badName, badConstructor, badOperand, badPiece, badLetter, partFault, faultOf, checkOf};
-ghost use Rattle.rules.specs.Marks.{Marks};
+ghost use Rattle.format.specs.Rules.{pieceOk, letterOk};
+ghost use Rattle.format.specs.Check.{allGood, badField, badName, badConstructor, badOperand, badPiece, badLetter, partFault, faultOf, checkOf};
+ghost use Rattle.rules.specs.Judging.{Marked};
 
 // The first faulty record of each section, or its count. The cursor goes from record to record.
 fn bad_field(desc: &[u8], layout: Layout) -> usize
@@ -57,9 +57,8 @@ fn bad_name(desc: &[u8], layout: Layout) -> usize
     n
 }
 
-fn bad_constructor(desc: &[u8], layout: Layout, tables: &[bool; 256]) -> usize
-    requires { ⌜ Room (now desc) layout ⌝ }
-    requires { ⌜ Marks 256 (now tables) (hasTable (description (now desc) layout)) ⌝ }
+fn bad_constructor(desc: &[u8], layout: Layout, tables: &[bool; format::BYTE_VALUES]) -> usize
+    requires { ⌜ Marked (now desc) layout (now tables) ⌝ }
     ensures { λ r. ⌜ r ≡ badConstructor (description (now (desc .entry)) layout) ⌝ }
 {
     let n = layout.constructors.count;
@@ -103,7 +102,7 @@ fn bad_operand(desc: &[u8], layout: Layout) -> usize
 // Whether all pieces are good, with no branch in the loop: which way a piece goes is hard to foretell.
 fn all_pieces(desc: &[u8], layout: Layout) -> bool
     requires { ⌜ Room (now desc) layout ⌝ }
-    ensures { λ r. ⌜ r ≡ allBelow (layout .pieces .count) (λ i. pieceOk (layout .text .count) (getD (piecesOf (now (desc .entry)) layout) i noPiece)) ⌝ }
+    ensures { λ r. ⌜ r ≡ allGood (pieceOk (layout .text .count)) noPiece (piecesOf (now (desc .entry)) layout) ⌝ }
 {
     let mut good = true;
     let n = layout.pieces.count;
@@ -168,11 +167,12 @@ fn find_letter(desc: &[u8], layout: Layout) -> usize
     requires { ⌜ Room (now desc) layout ⌝ }
     ensures { λ r. ⌜ r ≡ badLetter (description (now (desc .entry)) layout) ⌝ }
 {
+    let n = layout.text.count;
     let mut c = Cursor {
         at: layout.text.start,
     };
     let mut i = 0;
-    while i < layout.text.count {
+    while i < n {
         let r = c.letter(desc);
         if rules::letter_ok(r.letter) {
             c = r.next;
@@ -181,7 +181,7 @@ fn find_letter(desc: &[u8], layout: Layout) -> usize
             return i;
         }
     }
-    i
+    n
 }
 
 fn bad_letter(desc: &[u8], layout: Layout) -> usize

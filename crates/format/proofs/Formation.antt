@@ -14,7 +14,7 @@ use Rattle.format.specs.Numbers.{sectionItself, operandsEach, piecesEach
 use Rattle.format.specs.Layout.{layoutOf}
 use Rattle.format.specs.Description.{Description, description, noField, noName, noConstructor, noOperand, noPiece}
 use Rattle.format.specs.Rules.{fieldOk, nameOk, constructorOk, operandOk, pieceOk, letterOk, shapeOk, tableOk, tableAt, minimumOk, valueOk, rangeOk, operandFits, pieceFits}
-use Rattle.format.specs.Check.{named, faultOf, partFault, judged, checkOf, Formed, badField, badName, badConstructor, badOperand, badPiece, badLetter}
+use Rattle.format.specs.Check.{allGood, named, faultOf, partFault, judged, checkOf, Formed, badField, badName, badConstructor, badOperand, badPiece, badLetter}
 use Rattle.format.specs.declared.Layout.{Layout}
 use Rattle.format.specs.declared.Constructor.{Constructor}
 use Rattle.format.specs.declared.Laid.{Laid}
@@ -25,12 +25,12 @@ use Rattle.format.proofs.Places.{laid-room}
 
 -- every record of every section obeys its rules
 pub record Obeyed (d : Description) : Type 0 where
-  pub fields : allBelow (length (d .fields)) (λ i. fieldOk (length (d .names)) (getD (d .fields) i noField)) ≡ true
-  pub names : allBelow (length (d .names)) (λ i. nameOk (length (d .text)) (getD (d .names) i noName)) ≡ true
+  pub fields : allGood (fieldOk (length (d .names))) noField (d .fields) ≡ true
+  pub names : allGood (nameOk (length (d .text))) noName (d .names) ≡ true
   pub constructors : allBelow (length (d .constructors)) (constructorOk d) ≡ true
-  pub operands : allBelow (length (d .operands)) (λ i. operandOk (d .fields) (getD (d .operands) i noOperand)) ≡ true
-  pub pieces : allBelow (length (d .pieces)) (λ i. pieceOk (length (d .text)) (getD (d .pieces) i noPiece)) ≡ true
-  pub text : allBelow (length (d .text)) (λ i. letterOk (getD (d .text) i 0)) ≡ true
+  pub operands : allGood (operandOk (d .fields)) noOperand (d .operands) ≡ true
+  pub pieces : allGood (pieceOk (length (d .text))) noPiece (d .pieces) ≡ true
+  pub text : allGood letterOk 0 (d .text) ≡ true
 
 -- a section that is passed over has no faulty record
 passed : (k i n : ℕ) (rest : Checked) (l : Layout) → named k i n rest ≡ Good l → (n ≤ i) × (rest ≡ Good l)

@@ -4,5 +4,5 @@ pub mod Places
 pub mod Product
 pub mod Formation
 pub mod Tables
-pub mod Steps
+pub mod Search
 pub mod Example

@@ -2,7 +2,7 @@
 use Prim.Native.Nat.{ℕ, _+_, _*_, _≤_}
 use mathlib.Core.Bool.{Bool, true, false, cond, _&&_}
 use mathlib.Core.List.{List}
-use mathlib.Core.Path.{_≡_, refl, subst}
+use mathlib.Core.Path.{_≡_, refl}
 use native.Mathlib.Omega.{arith}
 use native.Mathlib.Nat.{mul-comm}
 use borrow.Author.Tests.{leb-true}
@@ -10,7 +10,8 @@ use lib.Dec.{leb, eqb}
 use lib.ListN.{length}
 use Rattle.lists.proofs.Bools.{and4}
 use Rattle.format.specs.Bytes.{wordAt}
-use Rattle.format.specs.Layout.{Room, next, sectionAt, layoutOf, namesFrom, constructorsFrom, operandsFrom, piecesFrom, textFrom}
+use Rattle.format.specs.Numbers.{countBytes}
+use Rattle.format.specs.Layout.{Room, inside, next, endOr, sectionAt, layoutOf, namesFrom, constructorsFrom, operandsFrom, piecesFrom, textFrom}
 use Rattle.format.specs.declared.Section.{Section}
 use Rattle.format.specs.declared.Cursor.{Cursor}
 use Rattle.format.specs.declared.Layout.{Layout}
@@ -21,7 +22,7 @@ use Rattle.format.specs.declared.Laid.the-variants.{At, Fault}
 
 -- what a count that was found says of its section
 pub record Placed (b : List ℕ) (least most size : ℕ) (s : Section) : Type 0 where
-  pub inside : s .start + size * s .count ≤ length b
+  pub fits : inside b size s
   pub enough : least ≤ s .count
   pub few : s .count ≤ most
 
@@ -41,17 +42,17 @@ passed b k at least most size more l e = go _ refl e
     n = wordAt b at
 
     go : (t : Bool)
-        → (leb (at + 2) (length b) && leb least n && leb n most && leb (at + 2 + n * size) (length b)) ≡ t
-        → next k (cond t (Found (record { start = at + 2; count = n }) (record { at = at + 2 + n * size })) Missing) more ≡ At l
+        → (leb (at + countBytes) (length b) && leb least n && leb n most && leb (at + countBytes + n * size) (length b)) ≡ t
+        → next k (cond t (Found (record { start = at + countBytes; count = n }) (record { at = at + countBytes + n * size })) Missing) more ≡ At l
         → Passed b least most size more l
     go true p q =
-        let f = and4 (leb (at + 2) (length b)) (leb least n) (leb n most) (leb (at + 2 + n * size) (length b)) p in
+        let f = and4 (leb (at + countBytes) (length b)) (leb least n) (leb n most) (leb (at + countBytes + n * size) (length b)) p in
         record {
-          section = record { start = at + 2; count = n };
-          at = at + 2 + n * size;
+          section = record { start = at + countBytes; count = n };
+          at = at + countBytes + n * size;
           placed =
               record {
-                inside = omega (arith, mul-comm n size, leb-true (at + 2 + n * size) (length b) (f .3));
+                fits = omega (arith, mul-comm n size, leb-true (at + countBytes + n * size) (length b) (f .3));
                 enough = leb-true least n (f .1);
                 few = leb-true n most (f .2);
               };
@@ -59,17 +60,26 @@ passed b k at least most size more l e = go _ refl e
         }
     go false p q = let z : _≡_ {A = ℕ} 0 1 = cc in absurd (omega arith)
 
-ended : (t : Bool) (l m : Layout) → cond t (At l) (Fault 6) ≡ At m → l ≡ m
-ended true l m e = cc
-ended false l m e = let z : _≡_ {A = ℕ} 0 1 = cc in absurd (omega arith)
+-- reading on from a layout that has room gives, if there is no fault, one that has room
+Keeps : List ℕ → (Layout → ℕ → Laid) → Type 0
+Keeps b rest = (l m : Layout) (at : ℕ) → Room b l → rest l at ≡ At m → Room b m
 
--- a section whose records are one byte each
-single : (b : List ℕ) (most : ℕ) (s : Section) → Placed b 0 most 1 s → s .start + s .count ≤ length b
-single b most s p = omega arith
+fault-keeps : (b : List ℕ) (k : ℕ) → Keeps b (λ l at. Fault k)
+unfolding Keeps
+fault-keeps b k l m at r e = let z : _≡_ {A = ℕ} 0 1 = cc in absurd (omega arith)
+
+-- .. also where the description may end
+end-keeps : (b : List ℕ) (rest : Layout → ℕ → Laid) → Keeps b rest → Keeps b (endOr b rest)
+unfolding Keeps
+end-keeps b rest k l m at r e = go (eqb at (length b)) e
+  where
+    go : (t : Bool) → cond t (At l) (rest l at) ≡ At m → Room b m
+    go true p = let s : l ≡ m = cc in rw s at r
+    go false p = k l m at r p
 
 -- the places that the counts give
 pub laid-room : (b : List ℕ) (l : Layout) → layoutOf b ≡ At l → Room b l
-unfolding layoutOf namesFrom constructorsFrom operandsFrom piecesFrom textFrom
+unfolding layoutOf namesFrom constructorsFrom operandsFrom piecesFrom textFrom Keeps
 laid-room b l e =
     let fields = passed b 1 _ _ _ _ _ l e in
     let names = passed b 2 _ _ _ _ _ l (fields .rest) in
@@ -77,14 +87,15 @@ laid-room b l e =
     let operands = passed b 4 _ _ _ _ _ l (constructors .rest) in
     let pieces = passed b 5 _ _ _ _ _ l (operands .rest) in
     let text = passed b 6 _ _ _ _ _ l (pieces .rest) in
-    subst (λ (m : Layout). Room b m) (ended (eqb (text .at) (length b)) _ l (text .rest))
+    end-keeps b (λ l at. Fault 6) (fault-keeps b 6) _ l (text .at)
     (record {
-      fields = fields .placed .inside;
-      names = names .placed .inside;
-      constructors = constructors .placed .inside;
-      operands = operands .placed .inside;
-      pieces = pieces .placed .inside;
-      text = single b _ _ (text .placed);
+      fields = fields .placed .fits;
+      names = names .placed .fits;
+      constructors = constructors .placed .fits;
+      operands = operands .placed .fits;
+      pieces = pieces .placed .fits;
+      text = text .placed .fits;
       some = constructors .placed .enough;
       few = constructors .placed .few;
     })
+    (text .rest)

@@ -1,4 +1,4 @@
--- "Numbers of two or more bytes are little-endian." A byte past the end reads as 0; nothing that is judged reads there.
+-- "Numbers of two or more bytes are little-endian unless a field says otherwise." A byte past the end reads as 0; nothing that is judged reads there.
 use Prim.Native.Nat.{ℕ, _+_, _*_}
 use mathlib.Core.List.{List}
 use lib.ListN.{getD}

@@ -5,7 +5,7 @@ use mathlib.Core.List.{List, [], _∷_}
 use mathlib.Core.Path.{_≡_}
 use lib.Dec.{ltb}
 use lib.ListN.{length, getD}
-use Rattle.lists.specs.Below.{firstBelow}
+use Rattle.lists.specs.Below.{allBelow, firstBelow}
 use Rattle.format.specs.Numbers.{sectionItself}
 use Rattle.format.specs.Layout.{layoutOf, Room}
 use Rattle.format.specs.Description.{Description, description, noField, noName, noOperand, noPiece}
@@ -16,24 +16,30 @@ use Rattle.format.specs.declared.Laid.the-variants as laid
 use Rattle.format.specs.declared.Checked.{Checked}
 use Rattle.format.specs.declared.Checked.the-variants.{Good, Fault}
 
--- section by section, the first faulty record
+-- the first record of a section that breaks the section's rule, or the section's count; and whether none does
+abbrev pub firstBad : {A : Type 0} → (A → Bool) → A → List A → ℕ
+firstBad rule none records = firstBelow (length records) (λ i. rule (getD records i none))
+
+abbrev pub allGood : {A : Type 0} → (A → Bool) → A → List A → Bool
+allGood rule none records = allBelow (length records) (λ i. rule (getD records i none))
+
 unfoldable pub badField : Description → ℕ
-badField d = firstBelow (length (d .fields)) (λ i. fieldOk (length (d .names)) (getD (d .fields) i noField))
+badField d = firstBad (fieldOk (length (d .names))) noField (d .fields)
 
 unfoldable pub badName : Description → ℕ
-badName d = firstBelow (length (d .names)) (λ i. nameOk (length (d .text)) (getD (d .names) i noName))
+badName d = firstBad (nameOk (length (d .text))) noName (d .names)
 
 unfoldable pub badConstructor : Description → ℕ
 badConstructor d = firstBelow (length (d .constructors)) (constructorOk d)
 
 unfoldable pub badOperand : Description → ℕ
-badOperand d = firstBelow (length (d .operands)) (λ i. operandOk (d .fields) (getD (d .operands) i noOperand))
+badOperand d = firstBad (operandOk (d .fields)) noOperand (d .operands)
 
 unfoldable pub badPiece : Description → ℕ
-badPiece d = firstBelow (length (d .pieces)) (λ i. pieceOk (length (d .text)) (getD (d .pieces) i noPiece))
+badPiece d = firstBad (pieceOk (length (d .text))) noPiece (d .pieces)
 
 unfoldable pub badLetter : Description → ℕ
-badLetter d = firstBelow (length (d .text)) (λ i. letterOk (getD (d .text) i 0))
+badLetter d = firstBad letterOk 0 (d .text)
 
 -- record i of section k is at fault if it is one of the section's n; else what comes after it is judged
 abbrev pub named : ℕ → ℕ → ℕ → Checked → Checked

@@ -3,6 +3,7 @@ use Prim.Native.Nat.{ℕ, _+_, _*_}
 use mathlib.Core.List.{List, []}
 use Rattle.lists.specs.Tab.{tab}
 use Rattle.format.specs.Bytes.{byteAt}
+use Rattle.format.specs.Numbers.{fieldBytes, nameBytes, constructorBytes, operandBytes, pieceBytes, letterBytes}
 use Rattle.format.specs.Record.{fieldAt, nameAt, constructorAt, operandAt, pieceAt}
 use Rattle.format.specs.declared.Field.{Field}
 use Rattle.format.specs.declared.Name.{Name}
@@ -10,6 +11,7 @@ use Rattle.format.specs.declared.Constructor.{Constructor}
 use Rattle.format.specs.declared.Operand.{Operand}
 use Rattle.format.specs.declared.Piece.{Piece}
 use Rattle.format.specs.declared.Layout.{Layout}
+use Rattle.format.specs.declared.Section.{Section}
 
 pub record Description : Type 0 where
   pub fields : List Field
@@ -19,23 +21,27 @@ pub record Description : Type 0 where
   pub pieces : List Piece
   pub text : List ℕ
 
+-- a section's records, each as the reader reads it at its place
+abbrev pub recordsOf : {A : Type 0} → (List ℕ → ℕ → A) → ℕ → List ℕ → Section → List A
+recordsOf reader size b s = tab (λ i. reader b (s .start + size * i)) (s .count)
+
 unfoldable pub fieldsOf : List ℕ → Layout → List Field
-fieldsOf b l = tab (λ i. fieldAt b (l .fields .start + 8 * i)) (l .fields .count)
+fieldsOf b l = recordsOf fieldAt fieldBytes b (l .fields)
 
 unfoldable pub namesOf : List ℕ → Layout → List Name
-namesOf b l = tab (λ i. nameAt b (l .names .start + 3 * i)) (l .names .count)
+namesOf b l = recordsOf nameAt nameBytes b (l .names)
 
 unfoldable pub constructorsOf : List ℕ → Layout → List Constructor
-constructorsOf b l = tab (λ i. constructorAt b (l .constructors .start + 32 * i)) (l .constructors .count)
+constructorsOf b l = recordsOf constructorAt constructorBytes b (l .constructors)
 
 unfoldable pub operandsOf : List ℕ → Layout → List Operand
-operandsOf b l = tab (λ i. operandAt b (l .operands .start + 4 * i)) (l .operands .count)
+operandsOf b l = recordsOf operandAt operandBytes b (l .operands)
 
 unfoldable pub piecesOf : List ℕ → Layout → List Piece
-piecesOf b l = tab (λ i. pieceAt b (l .pieces .start + 4 * i)) (l .pieces .count)
+piecesOf b l = recordsOf pieceAt pieceBytes b (l .pieces)
 
 unfoldable pub textOf : List ℕ → Layout → List ℕ
-textOf b l = tab (λ i. byteAt b (l .text .start + i)) (l .text .count)
+textOf b l = recordsOf byteAt letterBytes b (l .text)
 
 -- the description that bytes with these places are
 abbrev pub description : List ℕ → Layout → Description

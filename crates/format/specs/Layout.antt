@@ -1,11 +1,11 @@
--- The six counts, read in order, and where they place the sections.
+-- The counts, read in order, and where they place the sections.
 use Prim.Native.Nat.{ℕ, _+_, _*_, _≤_}
 use mathlib.Core.Bool.{Bool, cond, _&&_}
 use mathlib.Core.List.{List}
 use lib.Dec.{leb, eqb}
 use lib.ListN.{length}
 use Rattle.format.specs.Bytes.{wordAt}
-use Rattle.format.specs.Numbers.{mostFields, mostNames, leastConstructors, mostConstructors, mostOperands, mostPieces, mostLetters, fieldBytes, nameBytes, constructorBytes, operandBytes, pieceBytes, letterBytes}
+use Rattle.format.specs.Numbers.{countBytes, mostFields, mostNames, leastConstructors, mostConstructors, mostOperands, mostPieces, mostLetters, fieldBytes, nameBytes, constructorBytes, operandBytes, pieceBytes, letterBytes}
 use Rattle.format.specs.declared.Section.{Section}
 use Rattle.format.specs.declared.Layout.{Layout}
 use Rattle.format.specs.declared.Counted.{Counted}
@@ -17,9 +17,9 @@ use Rattle.format.specs.declared.Laid.the-variants.{At, Fault}
 unfoldable pub sectionAt : List ℕ → ℕ → ℕ → ℕ → ℕ → Counted
 sectionAt b at least most size =
     cond
-    (leb (at + 2) (length b) && leb least (wordAt b at) && leb (wordAt b at) most
-    && leb (at + 2 + wordAt b at * size) (length b))
-    (Found (record { start = at + 2; count = wordAt b at }) (record { at = at + 2 + wordAt b at * size }))
+    (leb (at + countBytes) (length b) && leb least (wordAt b at) && leb (wordAt b at) most
+    && leb (at + countBytes + wordAt b at * size) (length b))
+    (Found (record { start = at + countBytes; count = wordAt b at }) (record { at = at + countBytes + wordAt b at * size }))
     Missing
 
 -- section k, and what comes after it
@@ -27,47 +27,76 @@ abbrev pub next : ℕ → Counted → (Section → ℕ → Laid) → Laid
 next k (Found s c) more = more s (c .at)
 next k Missing more = Fault k
 
--- "First the counts are read in order", "Six sections stand in a fixed order, each after its count (two bytes), and nothing follows", "bytes left over are section 6's"
-unfoldable pub textFrom : List ℕ → Section → Section → Section → Section → Section → ℕ → Laid
-textFrom b fields names constructors operands pieces at =
-    next 6 (sectionAt b at 0 mostLetters letterBytes) λ text end.
-    cond (eqb end (length b))
-    (At
-    (record {
-      fields = fields;
-      names = names;
-      constructors = constructors;
-      operands = operands;
-      pieces = pieces;
-      text = text;
-    }))
-    (Fault 6)
+-- "First the counts are read in order": section k is read at a place and put into the layout, which was filled up to here; then the rest is read.
+abbrev pub section : List ℕ → ℕ → ℕ → ℕ → ℕ → (Layout → Section → Layout) → (Layout → ℕ → Laid) → Layout → ℕ → Laid
+section b k least most size put rest l at = next k (sectionAt b at least most size) (λ s end. rest (put l s) end)
 
-unfoldable pub piecesFrom : List ℕ → Section → Section → Section → Section → ℕ → Laid
-piecesFrom b fields names constructors operands at =
-    next 5 (sectionAt b at 0 mostPieces pieceBytes) (textFrom b fields names constructors operands)
+-- the description may end here, or goes on
+abbrev pub endOr : List ℕ → (Layout → ℕ → Laid) → Layout → ℕ → Laid
+endOr b rest l at = cond (eqb at (length b)) (At l) (rest l at)
 
-unfoldable pub operandsFrom : List ℕ → Section → Section → Section → ℕ → Laid
-operandsFrom b fields names constructors at =
-    next 4 (sectionAt b at 0 mostOperands operandBytes) (piecesFrom b fields names constructors)
+-- a layout with one section put in
+abbrev pub putFields : Layout → Section → Layout
+putFields l s =
+    record { fields = s; names = l .names; constructors = l .constructors; operands = l .operands; pieces = l .pieces; text = l .text }
 
-unfoldable pub constructorsFrom : List ℕ → Section → Section → ℕ → Laid
-constructorsFrom b fields names at =
-    next 3 (sectionAt b at leastConstructors mostConstructors constructorBytes) (operandsFrom b fields names)
+abbrev pub putNames : Layout → Section → Layout
+putNames l s =
+    record { fields = l .fields; names = s; constructors = l .constructors; operands = l .operands; pieces = l .pieces; text = l .text }
 
-unfoldable pub namesFrom : List ℕ → Section → ℕ → Laid
-namesFrom b fields at = next 2 (sectionAt b at 0 mostNames nameBytes) (constructorsFrom b fields)
+abbrev pub putConstructors : Layout → Section → Layout
+putConstructors l s =
+    record { fields = l .fields; names = l .names; constructors = s; operands = l .operands; pieces = l .pieces; text = l .text }
+
+abbrev pub putOperands : Layout → Section → Layout
+putOperands l s =
+    record { fields = l .fields; names = l .names; constructors = l .constructors; operands = s; pieces = l .pieces; text = l .text }
+
+abbrev pub putPieces : Layout → Section → Layout
+putPieces l s =
+    record { fields = l .fields; names = l .names; constructors = l .constructors; operands = l .operands; pieces = s; text = l .text }
+
+abbrev pub putText : Layout → Section → Layout
+putText l s =
+    record { fields = l .fields; names = l .names; constructors = l .constructors; operands = l .operands; pieces = l .pieces; text = s }
+
+-- a section without records, and a layout of six such
+abbrev pub empty : Section
+empty = record { start = 0; count = 0 }
+
+abbrev pub unlaid : Layout
+unlaid = record { fields = empty; names = empty; constructors = empty; operands = empty; pieces = empty; text = empty }
+
+-- "Six sections stand in a fixed order, each after its count (two bytes), and nothing follows", "bytes left over are section 6's"
+unfoldable pub textFrom : List ℕ → Layout → ℕ → Laid
+textFrom b = section b 6 0 mostLetters letterBytes putText (endOr b (λ l at. Fault 6))
+
+unfoldable pub piecesFrom : List ℕ → Layout → ℕ → Laid
+piecesFrom b = section b 5 0 mostPieces pieceBytes putPieces (textFrom b)
+
+unfoldable pub operandsFrom : List ℕ → Layout → ℕ → Laid
+operandsFrom b = section b 4 0 mostOperands operandBytes putOperands (piecesFrom b)
+
+unfoldable pub constructorsFrom : List ℕ → Layout → ℕ → Laid
+constructorsFrom b = section b 3 leastConstructors mostConstructors constructorBytes putConstructors (operandsFrom b)
+
+unfoldable pub namesFrom : List ℕ → Layout → ℕ → Laid
+namesFrom b = section b 2 0 mostNames nameBytes putNames (constructorsFrom b)
 
 unfoldable pub layoutOf : List ℕ → Laid
-layoutOf b = next 1 (sectionAt b 0 0 mostFields fieldBytes) (namesFrom b)
+layoutOf b = section b 1 0 mostFields fieldBytes putFields (namesFrom b) unlaid 0
+
+-- a section of records of this size lies inside the bytes
+abbrev pub inside : List ℕ → ℕ → Section → Type 0
+inside b size s = s .start + size * s .count ≤ length b
 
 -- each section lies inside the bytes, there is a constructor and not too many: what layoutOf shows of the places that it gives
 pub record Room (b : List ℕ) (l : Layout) : Type 0 where
-  pub fields : l .fields .start + 8 * l .fields .count ≤ length b
-  pub names : l .names .start + 3 * l .names .count ≤ length b
-  pub constructors : l .constructors .start + 32 * l .constructors .count ≤ length b
-  pub operands : l .operands .start + 4 * l .operands .count ≤ length b
-  pub pieces : l .pieces .start + 4 * l .pieces .count ≤ length b
-  pub text : l .text .start + l .text .count ≤ length b
+  pub fields : inside b fieldBytes (l .fields)
+  pub names : inside b nameBytes (l .names)
+  pub constructors : inside b constructorBytes (l .constructors)
+  pub operands : inside b operandBytes (l .operands)
+  pub pieces : inside b pieceBytes (l .pieces)
+  pub text : inside b letterBytes (l .text)
   pub some : 1 ≤ l .constructors .count
   pub few : l .constructors .count ≤ mostConstructors

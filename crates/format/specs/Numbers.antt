@@ -22,7 +22,10 @@ mostPieces = 4096
 abbrev pub mostLetters : ℕ
 mostLetters = 8192
 
--- a record's bytes
+-- "each after its count (two bytes)", and a record's bytes
+abbrev pub countBytes : ℕ
+countBytes = 2
+
 abbrev pub fieldBytes : ℕ
 fieldBytes = 8
 
@@ -40,6 +43,26 @@ pieceBytes = 4
 
 abbrev pub letterBytes : ℕ
 letterBytes = 1
+
+-- "width 1 to 4 bytes", "4 names", "Look 4 has at most 8 bits", "one byte, 32 to 126"
+abbrev pub widest : ℕ
+widest = 4
+
+abbrev pub namesLook : ℕ
+namesLook = 4
+
+abbrev pub namesBits : ℕ
+namesBits = 8
+
+abbrev pub firstLetter : ℕ
+firstLetter = 32
+
+abbrev pub lastLetter : ℕ
+lastLetter = 126
+
+-- how many values a byte has
+abbrev pub byteValues : ℕ
+byteValues = 256
 
 -- "table 0 to 63", "minimum length 0 to 16", "at most 8 operands and 16 pieces", "Offset 0 to 15"
 abbrev pub tables : ℕ

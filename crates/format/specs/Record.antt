@@ -2,6 +2,7 @@
 use Prim.Native.Nat.{ℕ, _+_}
 use mathlib.Core.List.{List}
 use Rattle.format.specs.Bytes.{byteAt, wordAt, longAt, quadAt}
+use Rattle.format.specs.Numbers.{fieldBytes, nameBytes, constructorBytes, operandBytes, pieceBytes, letterBytes}
 use Rattle.format.specs.declared.Field.{Field}
 use Rattle.format.specs.declared.Name.{Name}
 use Rattle.format.specs.declared.Pattern.{Pattern}
@@ -63,19 +64,19 @@ abbrev pub pieceAt : List ℕ → ℕ → Piece
 pieceAt b at = record { kind = byteAt b at; n = byteAt b (at + 1); offset = wordAt b (at + 2) }
 
 abbrev pub fieldRead : List ℕ → ℕ → FieldRead
-fieldRead b at = record { field = fieldAt b at; next = record { at = at + 8 } }
+fieldRead b at = record { field = fieldAt b at; next = record { at = at + fieldBytes } }
 
 abbrev pub nameRead : List ℕ → ℕ → NameRead
-nameRead b at = record { name = nameAt b at; next = record { at = at + 3 } }
+nameRead b at = record { name = nameAt b at; next = record { at = at + nameBytes } }
 
 abbrev pub constructorRead : List ℕ → ℕ → ConstructorRead
-constructorRead b at = record { constructor = constructorAt b at; next = record { at = at + 32 } }
+constructorRead b at = record { constructor = constructorAt b at; next = record { at = at + constructorBytes } }
 
 abbrev pub operandRead : List ℕ → ℕ → OperandRead
-operandRead b at = record { operand = operandAt b at; next = record { at = at + 4 } }
+operandRead b at = record { operand = operandAt b at; next = record { at = at + operandBytes } }
 
 abbrev pub pieceRead : List ℕ → ℕ → PieceRead
-pieceRead b at = record { piece = pieceAt b at; next = record { at = at + 4 } }
+pieceRead b at = record { piece = pieceAt b at; next = record { at = at + pieceBytes } }
 
 abbrev pub letterRead : List ℕ → ℕ → LetterRead
-letterRead b at = record { letter = byteAt b at; next = record { at = at + 1 } }
+letterRead b at = record { letter = byteAt b at; next = record { at = at + letterBytes } }

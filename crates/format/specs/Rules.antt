@@ -6,7 +6,7 @@ use lib.Bits.{bitAnd}
 use lib.Dec.{leb, ltb, eqb}
 use lib.ListN.{length, getD}
 use Rattle.lists.specs.Below.{allBelow, anyBelow}
-use Rattle.format.specs.Numbers.{tables, longest, operandsEach, piecesEach, farthest}
+use Rattle.format.specs.Numbers.{widest, namesLook, namesBits, firstLetter, lastLetter, tables, longest, operandsEach, piecesEach, farthest}
 use Rattle.format.specs.Description.{Description, noField, noConstructor, noOperand, noPiece}
 use Rattle.format.specs.declared.Field.{Field}
 use Rattle.format.specs.declared.Name.{Name}
@@ -21,8 +21,8 @@ use Rattle.format.specs.declared.Piece.{Piece}
 -- "source 0 is the instruction (width 1 to 4 bytes; order 0 little, 1 big), source 1 the context (width 4, order 0)"
 abbrev pub sourceOk : Field → Bool
 sourceOk f =
-    (eqb (f .source) 0 && leb 1 (f .width) && leb (f .width) 4 && leb (f .order) 1)
-    || (eqb (f .source) 1 && eqb (f .width) 4 && eqb (f .order) 0)
+    (eqb (f .source) 0 && leb 1 (f .width) && leb (f .width) widest && leb (f .order) 1)
+    || (eqb (f .source) 1 && eqb (f .width) widest && eqb (f .order) 0)
 
 -- "Low ≤ high < 8 × width"
 abbrev pub bitsOk : Field → Bool
@@ -35,8 +35,8 @@ bitsOf f = f .high + 1 - f .low
 -- "Look 4 has at most 8 bits and 2^bits names, all present, from its first name; other looks have first name 0."
 abbrev pub lookOk : ℕ → Field → Bool
 lookOk names f =
-    (ltb (f .look) 4 && eqb (f .first) 0)
-    || (eqb (f .look) 4 && leb (bitsOf f) 8 && leb (f .first + 2 ^ bitsOf f) names)
+    (ltb (f .look) namesLook && eqb (f .first) 0)
+    || (eqb (f .look) namesLook && leb (bitsOf f) namesBits && leb (f .first + 2 ^ bitsOf f) names)
 
 unfoldable pub fieldOk : ℕ → Field → Bool
 fieldOk names f = sourceOk f && bitsOk f && lookOk names f
@@ -121,13 +121,13 @@ fieldFits fields x =
     ltb (x .index) (length fields)
     && (not (eqb (getD fields (x .index) noField .source) 1) || (eqb (x .anchor) 0 && eqb (x .offset) 0))
 
--- "kind 0 a field .., 1 a table", "Offset 0 to 15"
+-- "kind 0 a field (its index in section 1), 1 a table", "Offset 0 to 15"
 unfoldable pub operandOk : List Field → Operand → Bool
 operandOk fields x = leb (x .offset) farthest && ((eqb (x .kind) 0 && fieldFits fields x) || eqb (x .kind) 1)
 
 -- ---- pieces
 
--- "kind 0 is n ≥ 1 bytes of text from the offset, inside the text; kind 1 is operand n .., offset 0"
+-- "kind 0 is n ≥ 1 bytes of text from the offset, inside the text; kind 1 is operand n (1 to the count), offset 0"; the count is the user's
 abbrev pub pieceOk : ℕ → Piece → Bool
 pieceOk letters p =
     (eqb (p .kind) 0 && leb 1 (p .n) && leb (p .offset + p .n) letters) || (eqb (p .kind) 1 && eqb (p .offset) 0)
@@ -136,4 +136,4 @@ pieceOk letters p =
 
 -- "one byte, 32 to 126"
 abbrev pub letterOk : ℕ → Bool
-letterOk x = leb 32 x && leb x 126
+letterOk x = leb firstLetter x && leb x lastLetter

@@ -17,3 +17,7 @@ tableFirst d t = firstBelow (length (d .constructors)) (λ i. ltb (tableAt d i) 
 
 unfoldable pub tableEnd : Description → ℕ → ℕ
 tableEnd d t = firstBelow (length (d .constructors)) (λ i. leb (tableAt d i) t)
+
+-- how many constructors table t has
+abbrev pub tableCount : Description → ℕ → ℕ
+tableCount d t = tableEnd d t - tableFirst d t

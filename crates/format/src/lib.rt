@@ -3,15 +3,18 @@ ghost use mathlib.Core.Path.{_≡_};
 ghost use Prim.Native.Nat.{_+_, _<_, _≤_};
 ghost use lib.ListN.{length};
 ghost use Rattle.format.specs.Bytes.{wordAt, longAt, quadAt};
+ghost use Rattle.format.specs.Numbers.{fieldBytes, nameBytes, constructorBytes, operandBytes, pieceBytes, letterBytes};
 ghost use Rattle.format.specs.Record.{fieldRead, nameRead, patternAt, constructorRead, operandRead, pieceRead, letterRead};
 ghost use Rattle.format.specs.Layout.{sectionAt};
 
-// The most records that a section holds. Section 3 holds one at least.
+// The most records that a section holds, and the least that section 3 holds.
 pub const FIELDS: u16 = 256;
 
 pub const NAMES: u16 = 1024;
 
 pub const CONSTRUCTORS: u16 = 512;
+
+pub const LEAST_CONSTRUCTORS: u16 = 1;
 
 pub const OPERANDS: u16 = 2048;
 
@@ -19,7 +22,9 @@ pub const PIECES: u16 = 4096;
 
 pub const LETTERS: u16 = 8192;
 
-// A record's bytes.
+// A count's bytes, and a record's.
+pub const COUNT_BYTES: usize = 2;
+
 pub const FIELD_BYTES: u8 = 8;
 
 pub const NAME_BYTES: u8 = 3;
@@ -31,6 +36,24 @@ pub const OPERAND_BYTES: u8 = 4;
 pub const PIECE_BYTES: u8 = 4;
 
 pub const LETTER_BYTES: u8 = 1;
+
+// A field's bytes at most; the look that shows names, and the bits of a field that has it at most.
+pub const WIDEST: u8 = 4;
+
+pub const NAMES_LOOK: u8 = 4;
+
+pub const NAMES_BITS: usize = 8;
+
+// A letter of the text lies between these.
+pub const FIRST_LETTER: u8 = 32;
+
+pub const LAST_LETTER: u8 = 126;
+
+// How many values a byte has.
+pub const BYTE_VALUES: usize = 256;
+
+// The bytes that a pattern masks at most.
+pub const PATTERN_BYTES: u8 = 8;
 
 // Tables are numbered below TABLES. An instruction has LONGEST bytes at most.
 pub const TABLES: u8 = 64;
@@ -205,7 +228,7 @@ pub fn quad(s: &[u8], at: usize) -> u64
 
 // The pattern of the constructor at this place.
 pub fn pattern_at(s: &[u8], at: usize) -> Pattern
-    requires { ⌜ at + 32 ≤ length (now s) ⌝ }
+    requires { ⌜ at + constructorBytes ≤ length (now s) ⌝ }
     ensures { λ r. ⌜ r ≡ patternAt (now (s .entry)) at ⌝ }
 {
     Pattern {
@@ -222,14 +245,14 @@ impl Cursor {
         ensures { λ r. ⌜ r ≡ sectionAt (now (s .entry)) (self .at) least most size ⌝ }
     {
         let at = self.at;
-        if s.len() < 2 {
+        if s.len() < COUNT_BYTES {
             return Counted::Missing;
         }
-        if s.len() - 2 < at {
+        if s.len() - COUNT_BYTES < at {
             return Counted::Missing;
         }
         let n = word(s, at);
-        let start = at + 2;
+        let start = at + COUNT_BYTES;
         let end = start + (n as usize) * (size as usize);
         let whole = (least <= n) & (n <= most) & (end <= s.len());
         if whole {
@@ -246,7 +269,7 @@ impl Cursor {
     }
 
     pub fn field(self, s: &[u8]) -> FieldRead
-        requires { ⌜ self .at + 8 ≤ length (now s) ⌝ }
+        requires { ⌜ self .at + fieldBytes ≤ length (now s) ⌝ }
         ensures { λ r. ⌜ r ≡ fieldRead (now (s .entry)) (self .at) ⌝ }
     {
         let at = self.at;
@@ -261,12 +284,14 @@ impl Cursor {
         };
         FieldRead {
             field,
-            next: Cursor { at: at + 8 },
+            next: Cursor {
+                at: at + (FIELD_BYTES as usize),
+            },
         }
     }
 
     pub fn name(self, s: &[u8]) -> NameRead
-        requires { ⌜ self .at + 3 ≤ length (now s) ⌝ }
+        requires { ⌜ self .at + nameBytes ≤ length (now s) ⌝ }
         ensures { λ r. ⌜ r ≡ nameRead (now (s .entry)) (self .at) ⌝ }
     {
         let at = self.at;
@@ -276,12 +301,14 @@ impl Cursor {
         };
         NameRead {
             name,
-            next: Cursor { at: at + 3 },
+            next: Cursor {
+                at: at + (NAME_BYTES as usize),
+            },
         }
     }
 
     pub fn constructor(self, s: &[u8]) -> ConstructorRead
-        requires { ⌜ self .at + 32 ≤ length (now s) ⌝ }
+        requires { ⌜ self .at + constructorBytes ≤ length (now s) ⌝ }
         ensures { λ r. ⌜ r ≡ constructorRead (now (s .entry)) (self .at) ⌝ }
     {
         let at = self.at;
@@ -303,12 +330,14 @@ impl Cursor {
         };
         ConstructorRead {
             constructor,
-            next: Cursor { at: at + 32 },
+            next: Cursor {
+                at: at + (CONSTRUCTOR_BYTES as usize),
+            },
         }
     }
 
     pub fn operand(self, s: &[u8]) -> OperandRead
-        requires { ⌜ self .at + 4 ≤ length (now s) ⌝ }
+        requires { ⌜ self .at + operandBytes ≤ length (now s) ⌝ }
         ensures { λ r. ⌜ r ≡ operandRead (now (s .entry)) (self .at) ⌝ }
     {
         let at = self.at;
@@ -320,12 +349,14 @@ impl Cursor {
         };
         OperandRead {
             operand,
-            next: Cursor { at: at + 4 },
+            next: Cursor {
+                at: at + (OPERAND_BYTES as usize),
+            },
         }
     }
 
     pub fn piece(self, s: &[u8]) -> PieceRead
-        requires { ⌜ self .at + 4 ≤ length (now s) ⌝ }
+        requires { ⌜ self .at + pieceBytes ≤ length (now s) ⌝ }
         ensures { λ r. ⌜ r ≡ pieceRead (now (s .entry)) (self .at) ⌝ }
     {
         let at = self.at;
@@ -336,18 +367,22 @@ impl Cursor {
         };
         PieceRead {
             piece,
-            next: Cursor { at: at + 4 },
+            next: Cursor {
+                at: at + (PIECE_BYTES as usize),
+            },
         }
     }
 
     pub fn letter(self, s: &[u8]) -> LetterRead
-        requires { ⌜ self .at < length (now s) ⌝ }
+        requires { ⌜ self .at + letterBytes ≤ length (now s) ⌝ }
         ensures { λ r. ⌜ r ≡ letterRead (now (s .entry)) (self .at) ⌝ }
     {
         let at = self.at;
         LetterRead {
             letter: s[at],
-            next: Cursor { at: at + 1 },
+            next: Cursor {
+                at: at + (LETTER_BYTES as usize),
+            },
         }
     }
 }

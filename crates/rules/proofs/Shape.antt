@@ -11,10 +11,7 @@ use Rattle.format.specs.Description.{Description}
 use Rattle.format.specs.Rules.{tableOk, minimumOk, valueOk, rangeOk, shapeOk}
 use Rattle.format.specs.declared.Constructor.{Constructor}
 use Rattle.format.specs.declared.Range.{Range}
-
-pub record Ranged (most count : ℕ) (r : Range) : Type 0 where
-  pub few : r .count ≤ most
-  pub inside : r .first + r .count ≤ count
+use Rattle.rules.specs.Judging.{Ranged, Shaped}
 
 ranged : (most count : ℕ) (r : Range) → rangeOk most count r ≡ true → Ranged most count r
 ranged most count r e =
@@ -27,15 +24,12 @@ module _ (d : Description) (i : ℕ) (c : Constructor) (e : shapeOk d i c ≡ tr
   front : Bool
   front = tableOk d i && minimumOk c && valueOk (c .pattern)
 
-  pub shape-pieces : Ranged piecesEach (length (d .pieces)) (c .pieces)
+  pub shape-holds : Shaped (length (d .operands)) (length (d .pieces)) c
   unfolding shapeOk front
-  shape-pieces =
-      ranged piecesEach (length (d .pieces)) (c .pieces)
-      (and-right (front && rangeOk operandsEach (length (d .operands)) (c .operands)) (rangeOk piecesEach (length (d .pieces)) (c .pieces)) e)
-
-  pub shape-operands : Ranged operandsEach (length (d .operands)) (c .operands)
-  unfolding shapeOk front
-  shape-operands =
-      ranged operandsEach (length (d .operands)) (c .operands)
-      (and-right front (rangeOk operandsEach (length (d .operands)) (c .operands))
-      (and-left (front && rangeOk operandsEach (length (d .operands)) (c .operands)) (rangeOk piecesEach (length (d .pieces)) (c .pieces)) e))
+  shape-holds =
+      let first = rangeOk operandsEach (length (d .operands)) (c .operands) in
+      let last = rangeOk piecesEach (length (d .pieces)) (c .pieces) in
+      record {
+        operands = ranged operandsEach (length (d .operands)) (c .operands) (and-right front first (and-left (front && first) last e));
+        pieces = ranged piecesEach (length (d .pieces)) (c .pieces) (and-right (front && first) last e);
+      }

@@ -1,2 +1,3 @@
 -- What the code of this crate carries from record to record.
 pub mod Marks
+pub mod Judging

@@ -8,3 +8,7 @@ use lib.ListN.{getD}
 -- number k, if below the size, is marked exactly where it is named
 pub record Marks (size : ℕ) (list : List Bool) (named : ℕ → Bool) : Type 0 where
   pub marked : (k : ℕ) → k < size → getD list k false ≡ named k
+
+-- the marks of the operands shown so far: more than the numbers that an operand may have
+abbrev pub shownMarks : ℕ
+shownMarks = 16

@@ -13,16 +13,21 @@ ghost use Prim.Native.Nat.{_+_, _<_, _≤_, _^_, _%_};
 ghost use lib.Dec.{leb, ltb, eqb};
 ghost use lib.ListN.{getD};
 ghost use Rattle.lists.specs.Below.{allBelow};
+ghost use Rattle.format.specs.Numbers.{namesBits, byteValues};
 ghost use Rattle.format.specs.Layout.{Room};
-ghost use Rattle.format.specs.Description.{description, fieldsOf, constructorsOf, noConstructor};
+ghost use Rattle.format.specs.Description.{description, fieldsOf};
 ghost use Rattle.format.specs.Rules.{sourceOk, bitsOk, lookOk, fieldOk, nameOk, tableOk, hasTable, minimumOk, valueOk, rangeOk, shapeOk, anchorFits, operandFits, pieceFits, constructorOk, fieldFits, operandOk, pieceOk, letterOk};
-ghost use Rattle.rules.specs.Marks.{Marks};
+ghost use Rattle.rules.specs.Marks.{Marks, shownMarks};
+ghost use Rattle.rules.specs.Judging.{Marked, Judging, Shaped};
+
+// The marks of the operands shown so far.
+const SHOWN: u8 = 16;
 
 pub fn source_ok(f: Field) -> bool
     ensures { λ r. ⌜ r ≡ sourceOk f ⌝ }
 {
-    ((f.source == 0) & (1 <= f.width) & (f.width <= 4) & (f.order <= 1))
-        | ((f.source == 1) & (f.width == 4) & (f.order == 0))
+    ((f.source == 0) & (1 <= f.width) & (f.width <= format::WIDEST) & (f.order <= 1))
+        | ((f.source == 1) & (f.width == format::WIDEST) & (f.order == 0))
 }
 
 pub fn bits_ok(f: Field) -> bool
@@ -35,8 +40,8 @@ pub fn bits_ok(f: Field) -> bool
 
 // 2 to the power of a field's number of bits.
 fn names_of(bits: usize) -> usize
-    requires { ⌜ bits ≤ 8 ⌝ }
-    ensures { λ r. ⌜ (r ≡ 2 ^ bits) × (r ≤ 256) ⌝ }
+    requires { ⌜ bits ≤ namesBits ⌝ }
+    ensures { λ r. ⌜ (r ≡ 2 ^ bits) × (r ≤ byteValues) ⌝ }
 {
     1 << bits
 }
@@ -45,11 +50,11 @@ fn look_ok(f: Field, names: usize) -> bool
     requires { ⌜ f .low ≤ f .high ⌝ }
     ensures { λ r. ⌜ r ≡ lookOk names f ⌝ }
 {
-    if f.look != 4 {
-        return (f.look < 4) & (f.first == 0);
+    if f.look != format::NAMES_LOOK {
+        return (f.look < format::NAMES_LOOK) & (f.first == 0);
     }
     let bits = (f.high as usize) + 1 - (f.low as usize);
-    if 8 < bits {
+    if format::NAMES_BITS < bits {
         return false;
     }
     (f.first as usize) + names_of(bits) <= names
@@ -81,14 +86,14 @@ pub fn piece_ok(p: Piece, letters: usize) -> bool
 pub fn letter_ok(x: u8) -> bool
     ensures { λ r. ⌜ r ≡ letterOk x ⌝ }
 {
-    (32 <= x) & (x <= 126)
+    (format::FIRST_LETTER <= x) & (x <= format::LAST_LETTER)
 }
 
 fn minimum_ok(c: Constructor) -> bool
     ensures { λ r. ⌜ r ≡ minimumOk c ⌝ }
 {
     let minimum = c.minimum;
-    if 8 <= minimum {
+    if format::PATTERN_BYTES <= minimum {
         return minimum <= format::LONGEST;
     }
     c.pattern.mask >> (8 * minimum) == 0
@@ -133,11 +138,11 @@ fn shape_ok(desc: &[u8], layout: Layout, i: usize, c: Constructor) -> bool
 }
 
 // The tables that have a constructor, gathered once for all operands that name one.
-pub fn tables_of(desc: &[u8], layout: Layout) -> [bool; 256]
+pub fn tables_of(desc: &[u8], layout: Layout) -> [bool; format::BYTE_VALUES]
     requires { ⌜ Room (now desc) layout ⌝ }
-    ensures { λ r. ⌜ Marks 256 r (hasTable (description (now (desc .entry)) layout)) ⌝ }
+    ensures { λ r. ⌜ Marks byteValues r (hasTable (description (now (desc .entry)) layout)) ⌝ }
 {
-    let mut marks = [false; 256];
+    let mut marks = [false; format::BYTE_VALUES];
     let n = layout.constructors.count;
     let mut i = 0;
     while i < n {
@@ -149,8 +154,8 @@ pub fn tables_of(desc: &[u8], layout: Layout) -> [bool; 256]
 }
 
 // Operand o, from 0, of a constructor of this table.
-fn operand_fits(x: Operand, tables: &[bool; 256], table: u8, o: usize) -> bool
-    requires { ⌜ o < 256 ⌝ }
+fn operand_fits(x: Operand, tables: &[bool; format::BYTE_VALUES], table: u8, o: usize) -> bool
+    requires { ⌜ o < byteValues ⌝ }
     ensures { λ r. ⌜ r ≡ anchorFits o x && (not (eqb (x .kind) 1) || (ltb (x .index) table && getD (now (tables .entry)) (x .index) false)) ⌝ }
 {
     let anchor = x.anchor as usize;
@@ -158,10 +163,14 @@ fn operand_fits(x: Operand, tables: &[bool; 256], table: u8, o: usize) -> bool
     (anchor < o + 1) & ((x.kind != 1) | ((x.index < table) & tables[index]))
 }
 
-fn operands_ok(desc: &[u8], layout: Layout, tables: &[bool; 256], c: Constructor) -> bool
-    requires { ⌜ Room (now desc) layout ⌝ }
-    requires { ⌜ Marks 256 (now tables) (hasTable (description (now desc) layout)) ⌝ }
-    requires { ⌜ c .operands .first + c .operands .count ≤ layout .operands .count ⌝ }
+fn operands_ok(
+    desc: &[u8],
+    layout: Layout,
+    tables: &[bool; format::BYTE_VALUES],
+    c: Constructor,
+) -> bool
+    requires { ⌜ Marked (now desc) layout (now tables) ⌝ }
+    requires { ⌜ Shaped (layout .operands .count) (layout .pieces .count) c ⌝ }
     ensures { λ r. ⌜ r ≡ allBelow (c .operands .count) (operandFits (description (now (desc .entry)) layout) c) ⌝ }
 {
     let first = c.operands.first as usize;
@@ -180,29 +189,28 @@ fn operands_ok(desc: &[u8], layout: Layout, tables: &[bool; 256], c: Constructor
 }
 
 // A piece of a constructor with so many operands, where `shown` marks those that an earlier piece shows.
-fn piece_fits(p: Piece, operands: u8, shown: &[bool; 16]) -> bool
-    ensures { λ r. ⌜ r ≡ not (eqb (p .kind) 1) || (leb 1 (p .n) && leb (p .n) operands && not (getD (now (shown .entry)) (p .n % 16) false)) ⌝ }
+fn piece_fits(p: Piece, operands: u8, shown: &[bool; SHOWN as usize]) -> bool
+    ensures { λ r. ⌜ r ≡ not (eqb (p .kind) 1) || (leb 1 (p .n) && leb (p .n) operands && not (getD (now (shown .entry)) (p .n % shownMarks) false)) ⌝ }
 {
-    let at = (p.n % 16) as usize;
+    let at = (p.n % SHOWN) as usize;
     (p.kind != 1) | ((1 <= p.n) & (p.n <= operands) & !shown[at])
 }
 
 // No branch depends on a piece's kind, which is hard to foretell: the loop keeps the answer so far.
 fn pieces_ok(desc: &[u8], layout: Layout, c: Constructor) -> bool
     requires { ⌜ Room (now desc) layout ⌝ }
-    requires { ⌜ c .pieces .first + c .pieces .count ≤ layout .pieces .count ⌝ }
-    requires { ⌜ c .operands .count ≤ 8 ⌝ }
+    requires { ⌜ Shaped (layout .operands .count) (layout .pieces .count) c ⌝ }
     ensures { λ r. ⌜ r ≡ allBelow (c .pieces .count) (pieceFits (description (now (desc .entry)) layout) c) ⌝ }
 {
     let first = c.pieces.first as usize;
     let n = c.pieces.count as usize;
-    let mut shown = [false; 16];
+    let mut shown = [false; SHOWN as usize];
     let mut good = true;
     let mut q = 0;
     while q < n {
         let p = sections::piece_at(desc, layout, first + q);
         good = good & piece_fits(p, c.operands.count, &shown);
-        let at = (p.n % 16) as usize;
+        let at = (p.n % SHOWN) as usize;
         shown[at] = shown[at] | (p.kind == 1);
         q += 1;
     }
@@ -212,14 +220,11 @@ fn pieces_ok(desc: &[u8], layout: Layout, c: Constructor) -> bool
 pub fn constructor_ok(
     desc: &[u8],
     layout: Layout,
-    tables: &[bool; 256],
+    tables: &[bool; format::BYTE_VALUES],
     i: usize,
     c: Constructor,
 ) -> bool
-    requires { ⌜ Room (now desc) layout ⌝ }
-    requires { ⌜ Marks 256 (now tables) (hasTable (description (now desc) layout)) ⌝ }
-    requires { ⌜ i < layout .constructors .count ⌝ }
-    requires { ⌜ c ≡ getD (constructorsOf (now desc) layout) i noConstructor ⌝ }
+    requires { ⌜ Judging (now desc) layout (now tables) i c ⌝ }
     ensures { λ r. ⌜ r ≡ constructorOk (description (now (desc .entry)) layout) i ⌝ }
 {
     if shape_ok(desc, layout, i, c) {

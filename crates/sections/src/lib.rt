@@ -17,99 +17,91 @@ ghost use Rattle.format.specs.Layout.{Room, layoutOf, namesFrom, constructorsFr
 ghost use Rattle.format.specs.Description.{description, fieldsOf, namesOf, constructorsOf, operandsOf, piecesOf, textOf, noField, noName, noConstructor, noOperand, noPiece};
 ghost use Rattle.format.specs.Rules.{tableAt};
 
-// Each of these reads its section's count and goes on with the sections behind it.
-fn lay_text(
-    desc: &[u8],
-    fields: Section,
-    names: Section,
-    constructors: Section,
-    operands: Section,
-    pieces: Section,
-    c: Cursor,
-) -> Laid
-    ensures { λ r. ⌜ r ≡ textFrom (now (desc .entry)) fields names constructors operands pieces (c .at) ⌝ }
+// Each of these reads its section's count, puts the section into the layout, and goes on with the sections behind it.
+fn lay_text(desc: &[u8], layout: Layout, c: Cursor) -> Laid
+    ensures { λ r. ⌜ r ≡ textFrom (now (desc .entry)) layout (c .at) ⌝ }
 {
+    let mut layout = layout;
     let Counted::Found(text, end) = c.count(desc, 0, format::LETTERS, format::LETTER_BYTES) else {
         return Laid::Fault(6);
     };
+    layout.text = text;
     if end.at == desc.len() {
-        Laid::At(Layout {
-            fields,
-            names,
-            constructors,
-            operands,
-            pieces,
-            text,
-        })
+        Laid::At(layout)
     } else {
         Laid::Fault(6)
     }
 }
 
-fn lay_pieces(
-    desc: &[u8],
-    fields: Section,
-    names: Section,
-    constructors: Section,
-    operands: Section,
-    c: Cursor,
-) -> Laid
-    ensures { λ r. ⌜ r ≡ piecesFrom (now (desc .entry)) fields names constructors operands (c .at) ⌝ }
+fn lay_pieces(desc: &[u8], layout: Layout, c: Cursor) -> Laid
+    ensures { λ r. ⌜ r ≡ piecesFrom (now (desc .entry)) layout (c .at) ⌝ }
 {
+    let mut layout = layout;
     let Counted::Found(pieces, next) = c.count(desc, 0, format::PIECES, format::PIECE_BYTES) else {
         return Laid::Fault(5);
     };
-    lay_text(desc, fields, names, constructors, operands, pieces, next)
+    layout.pieces = pieces;
+    lay_text(desc, layout, next)
 }
 
-fn lay_operands(
-    desc: &[u8],
-    fields: Section,
-    names: Section,
-    constructors: Section,
-    c: Cursor,
-) -> Laid
-    ensures { λ r. ⌜ r ≡ operandsFrom (now (desc .entry)) fields names constructors (c .at) ⌝ }
+fn lay_operands(desc: &[u8], layout: Layout, c: Cursor) -> Laid
+    ensures { λ r. ⌜ r ≡ operandsFrom (now (desc .entry)) layout (c .at) ⌝ }
 {
+    let mut layout = layout;
     let Counted::Found(operands, next) = c.count(desc, 0, format::OPERANDS, format::OPERAND_BYTES)
     else {
         return Laid::Fault(4);
     };
-    lay_pieces(desc, fields, names, constructors, operands, next)
+    layout.operands = operands;
+    lay_pieces(desc, layout, next)
 }
 
-fn lay_constructors(desc: &[u8], fields: Section, names: Section, c: Cursor) -> Laid
-    ensures { λ r. ⌜ r ≡ constructorsFrom (now (desc .entry)) fields names (c .at) ⌝ }
+fn lay_constructors(desc: &[u8], layout: Layout, c: Cursor) -> Laid
+    ensures { λ r. ⌜ r ≡ constructorsFrom (now (desc .entry)) layout (c .at) ⌝ }
 {
+    let mut layout = layout;
     let Counted::Found(constructors, next) = c.count(
         desc,
-        1,
+        format::LEAST_CONSTRUCTORS,
         format::CONSTRUCTORS,
         format::CONSTRUCTOR_BYTES,
     ) else {
         return Laid::Fault(3);
     };
-    lay_operands(desc, fields, names, constructors, next)
+    layout.constructors = constructors;
+    lay_operands(desc, layout, next)
 }
 
-fn lay_names(desc: &[u8], fields: Section, c: Cursor) -> Laid
-    ensures { λ r. ⌜ r ≡ namesFrom (now (desc .entry)) fields (c .at) ⌝ }
+fn lay_names(desc: &[u8], layout: Layout, c: Cursor) -> Laid
+    ensures { λ r. ⌜ r ≡ namesFrom (now (desc .entry)) layout (c .at) ⌝ }
 {
+    let mut layout = layout;
     let Counted::Found(names, next) = c.count(desc, 0, format::NAMES, format::NAME_BYTES) else {
         return Laid::Fault(2);
     };
-    lay_constructors(desc, fields, names, next)
+    layout.names = names;
+    lay_constructors(desc, layout, next)
 }
 
 pub fn lay(desc: &[u8]) -> Laid
     ensures { λ r. ⌜ r ≡ layoutOf (now (desc .entry)) ⌝ }
 {
+    let empty = Section { start: 0, count: 0 };
+    let mut layout = Layout {
+        fields: empty,
+        names: empty,
+        constructors: empty,
+        operands: empty,
+        pieces: empty,
+        text: empty,
+    };
     let start = Cursor { at: 0 };
     let Counted::Found(fields, next) = start.count(desc, 0, format::FIELDS, format::FIELD_BYTES)
     else {
         return Laid::Fault(1);
     };
-    lay_names(desc, fields, next)
+    layout.fields = fields;
+    lay_names(desc, layout, next)
 }
 
 pub fn field_at(desc: &[u8], layout: Layout, i: usize) -> Field
@@ -118,7 +110,7 @@ pub fn field_at(desc: &[u8], layout: Layout, i: usize) -> Field
     ensures { λ r. ⌜ r ≡ getD (fieldsOf (now (desc .entry)) layout) i noField ⌝ }
 {
     let c = Cursor {
-        at: layout.fields.start + 8 * i,
+        at: layout.fields.start + (format::FIELD_BYTES as usize) * i,
     };
     c.field(desc).field
 }
@@ -129,7 +121,7 @@ pub fn name_at(desc: &[u8], layout: Layout, i: usize) -> Name
     ensures { λ r. ⌜ r ≡ getD (namesOf (now (desc .entry)) layout) i noName ⌝ }
 {
     let c = Cursor {
-        at: layout.names.start + 3 * i,
+        at: layout.names.start + (format::NAME_BYTES as usize) * i,
     };
     c.name(desc).name
 }
@@ -140,7 +132,7 @@ pub fn constructor_at(desc: &[u8], layout: Layout, i: usize) -> Constructor
     ensures { λ r. ⌜ r ≡ getD (constructorsOf (now (desc .entry)) layout) i noConstructor ⌝ }
 {
     let c = Cursor {
-        at: layout.constructors.start + 32 * i,
+        at: layout.constructors.start + (format::CONSTRUCTOR_BYTES as usize) * i,
     };
     c.constructor(desc).constructor
 }
@@ -151,7 +143,10 @@ pub fn pattern_of(desc: &[u8], layout: Layout, i: usize) -> Pattern
     requires { ⌜ i < layout .constructors .count ⌝ }
     ensures { λ r. ⌜ r ≡ getD (constructorsOf (now (desc .entry)) layout) i noConstructor .pattern ⌝ }
 {
-    format::pattern_at(desc, layout.constructors.start + 32 * i)
+    format::pattern_at(
+        desc,
+        layout.constructors.start + (format::CONSTRUCTOR_BYTES as usize) * i,
+    )
 }
 
 // A constructor's table alone.
@@ -160,7 +155,7 @@ pub fn table_at(desc: &[u8], layout: Layout, i: usize) -> u8
     requires { ⌜ i < layout .constructors .count ⌝ }
     ensures { λ r. ⌜ r ≡ tableAt (description (now (desc .entry)) layout) i ⌝ }
 {
-    let at = layout.constructors.start + 32 * i;
+    let at = layout.constructors.start + (format::CONSTRUCTOR_BYTES as usize) * i;
     desc[at]
 }
 
@@ -170,7 +165,7 @@ pub fn operand_at(desc: &[u8], layout: Layout, i: usize) -> Operand
     ensures { λ r. ⌜ r ≡ getD (operandsOf (now (desc .entry)) layout) i noOperand ⌝ }
 {
     let c = Cursor {
-        at: layout.operands.start + 4 * i,
+        at: layout.operands.start + (format::OPERAND_BYTES as usize) * i,
     };
     c.operand(desc).operand
 }
@@ -181,7 +176,7 @@ pub fn piece_at(desc: &[u8], layout: Layout, i: usize) -> Piece
     ensures { λ r. ⌜ r ≡ getD (piecesOf (now (desc .entry)) layout) i noPiece ⌝ }
 {
     let c = Cursor {
-        at: layout.pieces.start + 4 * i,
+        at: layout.pieces.start + (format::PIECE_BYTES as usize) * i,
     };
     c.piece(desc).piece
 }

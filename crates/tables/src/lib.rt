@@ -10,11 +10,11 @@ ghost use Rattle.format.specs.Layout.{Room};
 ghost use Rattle.format.specs.Description.{description};
 ghost use Rattle.format.specs.Check.{Formed};
 ghost use Rattle.format.specs.Rules.{tableAt};
-ghost use Rattle.format.specs.Tables.{rootOf, tableFirst, tableEnd};
+ghost use Rattle.format.specs.Tables.{rootOf, tableFirst, tableCount};
 ghost use Rattle.tables.specs.Starts.{Starts};
 
 // A table has a number below TABLES; one more than that has the section's count.
-pub const STARTS: usize = 65;
+pub const STARTS: usize = (format::TABLES as usize) + 1;
 
 // A table's constructors: so many records of section 3 from the first on.
 pub struct Table {
@@ -51,7 +51,8 @@ fn first_from(desc: &[u8], layout: Layout, t: usize) -> usize
 
 pub fn table_of(desc: &[u8], layout: Layout, t: u32) -> Table
     requires { ⌜ Formed (now desc) layout ⌝ }
-    ensures { λ r. ⌜ (r .first ≡ tableFirst (description (now (desc .entry)) layout) t) × (r .count ≡ tableEnd (description (now (desc .entry)) layout) t - tableFirst (description (now (desc .entry)) layout) t) ⌝ }
+    ensures { λ r. ⌜ r .first ≡ tableFirst (description (now (desc .entry)) layout) t ⌝ }
+    ensures { λ r. ⌜ r .count ≡ tableCount (description (now (desc .entry)) layout) t ⌝ }
 {
     let t = t as usize;
     let first = first_from(desc, layout, t);
@@ -95,7 +96,8 @@ pub fn starts(desc: &[u8], layout: Layout) -> [usize; STARTS]
 pub fn table_by(starts: &[usize; STARTS], t: u8) -> Table
     requires { ⌜ t < tables ⌝ }
     requires { ⌜ getD (now starts) t 0 ≤ getD (now starts) (t + 1) 0 ⌝ }
-    ensures { λ r. ⌜ (r .first ≡ getD (now (starts .entry)) t 0) × (r .count ≡ getD (now (starts .entry)) (t + 1) 0 - getD (now (starts .entry)) t 0) ⌝ }
+    ensures { λ r. ⌜ r .first ≡ getD (now (starts .entry)) t 0 ⌝ }
+    ensures { λ r. ⌜ r .count ≡ getD (now (starts .entry)) (t + 1) 0 - getD (now (starts .entry)) t 0 ⌝ }
 {
     let at = t as usize;
     let first = starts[at];

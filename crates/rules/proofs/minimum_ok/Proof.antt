@@ -8,30 +8,14 @@ use Rattle.format.specs.Numbers.{longest}
 use borrow.Author.Needs.{needs}
 use Rattle.rules.proofs.minimum_ok.Statement.{statement}
 use Rattle.rules.proofs.minimum_ok.Tie as tie
-use Rattle.rules.proofs.minimum_ok.Reads as reads
-use Rattle.rules.proofs.minimum_ok.Lts as lts
 
--- src/lib.rt:85:9
 returns : tie.Need-returns
 returns c =
     rw (none-past-eight (c .before .args .c .pattern .mask) (c .before .args .c .minimum) (search needs) (c .if1 .taken))
     (sym (and-yes _))
 
--- src/lib.rt:87:24
-mul-result : tie.Need-mul-result
-mul-result c = search needs
-
--- src/lib.rt:87:24
-cast-result : tie.Need-cast-result
-cast-result c = search needs
-
--- src/lib.rt:87:5
-shr-result : tie.Need-shr-result
-shr-result c = search needs
-
--- src/lib.rt:80:1
 returns-2 : tie.Need-returns-2
 returns-2 c = rw (le-leb (c .before .before .args .c .minimum) longest (omega arith)) (none-past (c .before .before .args .c .pattern .mask) (8 * c .before .before .args .c .minimum))
 
 pub minimum-ok-spec : {M : Type 1} → statement M
-minimum-ok-spec = tie.close (tie.spec returns mul-result cast-result shr-result returns-2)
+minimum-ok-spec = tie.close (tie.spec returns (λ c. search needs) (λ c. search needs) (λ c. search needs) returns-2)

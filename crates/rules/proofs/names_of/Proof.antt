@@ -2,19 +2,12 @@ use lib.Pow.{shl-exact, pow-mono}
 use lib.Dec.{lit<}
 use native.Mathlib.Omega.{arith}
 use native.Mathlib.Nat.{one-mul}
-use mathlib.Core.Path.{_≡_, _∙_, sym}
+use mathlib.Core.Path.{_≡_, _∙_}
 use Prim.Native.Nat.{_*_, _%_, _^_, _≤_}
 use borrow.Author.Needs.{needs}
 use Rattle.rules.proofs.names_of.Statement.{statement}
 use Rattle.rules.proofs.names_of.Tie as tie
-use Rattle.rules.proofs.names_of.Reads as reads
-use Rattle.rules.proofs.names_of.Lts as lts
 
--- src/lib.rt:33:5
-shl-result : tie.Need-shl-result
-shl-result c = search needs
-
--- src/lib.rt:29:1
 returns : tie.Need-returns
 returns c =
     let k = c .args .bits in
@@ -23,4 +16,4 @@ returns c =
     (e, rw e h)
 
 pub names-of-spec : {M : Type 1} → statement M
-names-of-spec = tie.close (tie.spec shl-result returns)
+names-of-spec = tie.close (tie.spec (λ c. search needs) returns)

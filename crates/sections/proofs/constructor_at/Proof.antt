@@ -1,27 +1,22 @@
-use Rattle.format.proofs.Lists.{constructor-here}
-use mathlib.Core.Path.{sym, _∙_, ap}
+use mathlib.Core.Path.{sym, ap, _∙_}
 use borrow.Author.Needs.{needs}
+use Rattle.format.specs.Numbers.{constructorBytes}
+use Rattle.format.specs.Record.{constructorAt}
+use Rattle.format.specs.Description.{constructorsOf, noConstructor}
+use Rattle.format.proofs.Lists.{record-here}
 use Rattle.sections.proofs.constructor_at.Statement.{statement}
 use Rattle.sections.proofs.constructor_at.Tie as tie
-use Rattle.sections.proofs.constructor_at.Reads as reads
-use Rattle.sections.proofs.constructor_at.Lts as lts
-use Rattle.format.proofs.Cursor.constructor.Reads as constructor-reads
-
--- src/lib.rt:120:41
-mul-t5 : tie.Need-mul-t5
-mul-t5 c = search needs
-
--- src/lib.rt:120:13
-add-t6 : tie.Need-add-t6
-add-t6 c = search needs
-
--- src/lib.rt:122:5
-constructor-requires : tie.Need-constructor-requires
-constructor-requires c κs = search needs
-
--- src/lib.rt:114:1
-returns : tie.Need-returns
-returns c = ap (λ r. r .constructor) (c .before .constructor .ensures) ∙ sym (constructor-here _ _ _ (c .before .before .before .before .pre .1))
 
 pub constructor-at-spec : {M : Type 1} → statement M
-constructor-at-spec = tie.close (tie.spec mul-t5 add-t6 constructor-requires returns)
+unfolding constructorsOf
+constructor-at-spec =
+    tie.close
+    (tie.spec
+    (λ c. search needs)
+    (λ c. search needs)
+    (λ c. search needs)
+    (λ c κs. search needs)
+    (λ c.
+    let s = c .before .before .before .before in
+    ap (λ r. r .constructor) (c .before .constructor .ensures)
+    ∙ sym (record-here constructorAt constructorBytes (s .args .desc .now) (s .args .layout .constructors) _ noConstructor (s .pre .1))))

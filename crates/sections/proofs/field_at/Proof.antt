@@ -1,27 +1,22 @@
-use Rattle.format.proofs.Lists.{field-here}
-use mathlib.Core.Path.{sym, _∙_, ap}
+use mathlib.Core.Path.{sym, ap, _∙_}
 use borrow.Author.Needs.{needs}
+use Rattle.format.specs.Numbers.{fieldBytes}
+use Rattle.format.specs.Record.{fieldAt}
+use Rattle.format.specs.Description.{fieldsOf, noField}
+use Rattle.format.proofs.Lists.{record-here}
 use Rattle.sections.proofs.field_at.Statement.{statement}
 use Rattle.sections.proofs.field_at.Tie as tie
-use Rattle.sections.proofs.field_at.Reads as reads
-use Rattle.sections.proofs.field_at.Lts as lts
-use Rattle.format.proofs.Cursor.field.Reads as field-reads
-
--- src/lib.rt:98:35
-mul-t5 : tie.Need-mul-t5
-mul-t5 c = search needs
-
--- src/lib.rt:98:13
-add-t6 : tie.Need-add-t6
-add-t6 c = search needs
-
--- src/lib.rt:100:5
-field-requires : tie.Need-field-requires
-field-requires c κs = search needs
-
--- src/lib.rt:92:1
-returns : tie.Need-returns
-returns c = ap (λ r. r .field) (c .before .field .ensures) ∙ sym (field-here _ _ _ (c .before .before .before .before .pre .1))
 
 pub field-at-spec : {M : Type 1} → statement M
-field-at-spec = tie.close (tie.spec mul-t5 add-t6 field-requires returns)
+unfolding fieldsOf
+field-at-spec =
+    tie.close
+    (tie.spec
+    (λ c. search needs)
+    (λ c. search needs)
+    (λ c. search needs)
+    (λ c κs. search needs)
+    (λ c.
+    let s = c .before .before .before .before in
+    ap (λ r. r .field) (c .before .field .ensures)
+    ∙ sym (record-here fieldAt fieldBytes (s .args .desc .now) (s .args .layout .fields) _ noField (s .pre .1))))

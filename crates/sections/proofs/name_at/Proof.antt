@@ -1,27 +1,22 @@
-use Rattle.format.proofs.Lists.{name-here}
-use mathlib.Core.Path.{sym, _∙_, ap}
+use mathlib.Core.Path.{sym, ap, _∙_}
 use borrow.Author.Needs.{needs}
+use Rattle.format.specs.Numbers.{nameBytes}
+use Rattle.format.specs.Record.{nameAt}
+use Rattle.format.specs.Description.{namesOf, noName}
+use Rattle.format.proofs.Lists.{record-here}
 use Rattle.sections.proofs.name_at.Statement.{statement}
 use Rattle.sections.proofs.name_at.Tie as tie
-use Rattle.sections.proofs.name_at.Reads as reads
-use Rattle.sections.proofs.name_at.Lts as lts
-use Rattle.format.proofs.Cursor.name.Reads as name-reads
-
--- src/lib.rt:109:34
-mul-t5 : tie.Need-mul-t5
-mul-t5 c = search needs
-
--- src/lib.rt:109:13
-add-t6 : tie.Need-add-t6
-add-t6 c = search needs
-
--- src/lib.rt:111:5
-name-requires : tie.Need-name-requires
-name-requires c κs = search needs
-
--- src/lib.rt:103:1
-returns : tie.Need-returns
-returns c = ap (λ r. r .name) (c .before .name .ensures) ∙ sym (name-here _ _ _ (c .before .before .before .before .pre .1))
 
 pub name-at-spec : {M : Type 1} → statement M
-name-at-spec = tie.close (tie.spec mul-t5 add-t6 name-requires returns)
+unfolding namesOf
+name-at-spec =
+    tie.close
+    (tie.spec
+    (λ c. search needs)
+    (λ c. search needs)
+    (λ c. search needs)
+    (λ c κs. search needs)
+    (λ c.
+    let s = c .before .before .before .before in
+    ap (λ r. r .name) (c .before .name .ensures)
+    ∙ sym (record-here nameAt nameBytes (s .args .desc .now) (s .args .layout .names) _ noName (s .pre .1))))

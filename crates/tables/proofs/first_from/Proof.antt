@@ -14,9 +14,6 @@ use mathlib.Core.Path.{_≡_, sym}
 use Prim.Native.Nat.{ℕ, _≤_, _<_, _-_}
 use Rattle.tables.proofs.first_from.Statement.{statement}
 use Rattle.tables.proofs.first_from.Tie as tie
-use Rattle.tables.proofs.first_from.Reads as reads
-use Rattle.tables.proofs.first_from.Lts as lts
-use Rattle.sections.proofs.table_at.Reads as table-at-reads
 
 abbrev Inv-loop : tie.InvT-loop
 Inv-loop desc layout t low₀ high₀ low high =
@@ -26,35 +23,12 @@ Inv-loop desc layout t low₀ high₀ low high =
 abbrev μ-loop : tie.MeasureT-loop
 μ-loop desc layout t low₀ high₀ low high = high - low
 
--- src/lib.rt:31:5
 loop-holds : tie.Need-loop-holds Inv-loop μ-loop
 loop-holds c = (omega arith, omega arith, λ i h. absurd (omega arith), λ h. absurd (omega arith))
 
--- src/lib.rt:32:29
-sub-middle : tie.Need-sub-middle Inv-loop μ-loop
-sub-middle c = omega arith
-
--- src/lib.rt:32:22
-add-middle : tie.Need-add-middle Inv-loop μ-loop
-add-middle c = omega arith
-
--- src/lib.rt:33:21
 table-at-requires : tie.Need-table-at-requires Inv-loop μ-loop
 table-at-requires c κs = (c .before .before .before .pre .room, omega arith)
 
--- src/lib.rt:33:21
-cast-table : tie.Need-cast-table Inv-loop μ-loop
-cast-table c = search needs
-
--- src/lib.rt:35:19
-add-low : tie.Need-add-low Inv-loop μ-loop
-add-low c = omega arith
-
--- src/lib.rt:31:5
-loop-less : tie.Need-loop-less Inv-loop μ-loop
-loop-less c = omega arith
-
--- src/lib.rt:31:5
 loop-again : tie.Need-loop-again Inv-loop μ-loop
 loop-again c =
     let s = c .before .before .before .before .before in (
@@ -68,11 +42,6 @@ loop-again c =
       c .before .before .before .loop .inv .3,
     )
 
--- src/lib.rt:31:5
-loop-less-2 : tie.Need-loop-less-2 Inv-loop μ-loop
-loop-less-2 c = omega arith
-
--- src/lib.rt:31:5
 loop-again-2 : tie.Need-loop-again-2 Inv-loop μ-loop
 loop-again-2 c = (
   omega arith,
@@ -81,7 +50,6 @@ loop-again-2 c = (
   λ h. rw (← c .before .table-at .ensures) (c .if1 .left),
 )
 
--- src/lib.rt:25:1
 returns : tie.Need-returns Inv-loop μ-loop
 unfolding tableFirst
 returns c =
@@ -103,13 +71,13 @@ first-from-spec =
     Inv-loop
     μ-loop
     loop-holds
-    sub-middle
-    add-middle
+    (λ c. omega arith)
+    (λ c. omega arith)
     table-at-requires
-    cast-table
-    add-low
-    loop-less
+    (λ c. search needs)
+    (λ c. omega arith)
+    (λ c. omega arith)
     loop-again
-    loop-less-2
+    (λ c. omega arith)
     loop-again-2
     returns)
