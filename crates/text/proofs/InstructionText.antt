@@ -1,48 +1,48 @@
--- What a done walk has left in the scratch rows, for the text.
+-- The scratch rows of a done instruction, for the text: they are sound, and their text is the instruction's.
 use Prim.Native.Nat.{ℕ, suc, _+_, _≤_, _<_}
 use mathlib.Core.List.{List}
-use mathlib.Core.Path.{_≡_}
+use mathlib.Core.Path.{_≡_, refl, sym, ap, _∙_}
 use native.Mathlib.Omega.{arith}
-use lib.IntN.{ℤ}
-use lib.ListN.{length}
+use lib.IntN.{ℤ, pos}
+use lib.ListN.{length, replicate, length-append, length-replicate}
 use Rattle.format.specs.Numbers.{mostRows}
 use Rattle.format.specs.Description.{Description}
 use Rattle.format.proofs.Formation.{Obeyed}
-use Rattle.instruction.specs.Tree.{Node, built, numbered, named, rowsOf}
-use Rattle.instruction.specs.Walk.{instructionOf}
-use Rattle.instruction.proofs.Shapes.{shaped}
-use Rattle.walking.specs.Scratch.{scratchLength}
-use Rattle.walking.specs.Walks.{WalksTo}
-use Rattle.walking.specs.declared.Walked.{Walked}
-use Rattle.walking.specs.declared.Walked.the-variants.{Done}
-use Rattle.walking.proofs.Steps.{WasDone, was-done}
+use Rattle.decoding_spec.specs.Tree.{Node, Nodes, built, numbered, named, none, more, rowsOf, rowsOfAll}
+use Rattle.decoding_spec.specs.Walk.{done, instructionOf}
+use Rattle.decoding_spec.specs.declared.State.{State}
+use Rattle.decoding_theorems.specs.Facts.{InBounds}
+use Rattle.decoding_theorems.proofs.InBounds.{in-bounds, used-rows}
+use Rattle.decoding_theorems.proofs.Shapes.{shaped}
+use Rattle.walking.specs.Scratch.{scratchLength, sizedOf, sizedOfAll, written}
 use Rattle.text.specs.Text.{textOf}
 use Rattle.text.specs.Places.{textAt, Sound}
-use Rattle.text.specs.Lines.{Lines}
-use Rattle.text.specs.declared.Line.{Line}
-use Rattle.text.proofs.Trees.{sound-tree, text-tree}
+use Rattle.text.proofs.Trees.{rows-some, sound-tree, text-tree}
 
-a-row : (n : Node) → 0 < length (rowsOf n)
-unfolding rowsOf
-a-row (built k s l f) = omega arith
-a-row (numbered i s v) = omega arith
-a-row (named i s n) = omega arith
+mutual
+  unfolding rowsOf rowsOfAll sizedOf sizedOfAll
 
-module _ (d : Description) (o : Obeyed d) (c : ℕ) (s : List ℕ) (w : Walked) (before scratch : List ℤ)
-    (walks : WalksTo rowsOf (instructionOf d c s) w 0 before scratch) (long : length scratch ≡ scratchLength) (u l : ℕ) (e : w ≡ Done u l)
-    (few : u ≤ mostRows) where
-  pub left : WasDone rowsOf (instructionOf d c s) 0 before scratch u l
-  left = was-done rowsOf 0 before scratch (instructionOf d c s) w u l walks e
+  as-many : (n : Node) → length (sizedOf n) ≡ length (rowsOf n)
+  as-many (built k s l f) = ap suc (all-as-many f)
+  as-many (numbered i s v) = refl
+  as-many (named i s n) = refl
 
-  pub rows-some : 0 < u
-  rows-some = omega (arith, a-row (left .found), left .count)
+  all-as-many : (f : Nodes) → length (sizedOfAll f) ≡ length (rowsOfAll f)
+  all-as-many none = refl
+  all-as-many (more n f) = simp length-append (omega (arith, as-many n, all-as-many f))
 
-  pub rows-sound : Sound d scratch u
-  rows-sound = sound-tree d (left .found) scratch u (shaped d o c s (left .found) l (left .is)) long (omega (arith, left .count)) few (left .holds)
+module _ (d : Description) (o : Obeyed d) (c : ℕ) (s : List ℕ) (n : Node) (l : ℕ) (st : State) (e : instructionOf d c s ≡ done n l st) where
+  used-sized : st .used ≡ length (sizedOf n)
+  used-sized = used-rows d c s n l st e ∙ sym (as-many n)
 
-  pub text-is : textAt d scratch (suc mostRows) 0 ≡ textOf d (left .found)
-  text-is =
-      text-tree d o (left .found) scratch u (shaped d o c s (left .found) l (left .is)) long (omega (arith, left .count)) few (left .holds)
+  few : length (sizedOf n) ≤ mostRows
+  few = omega (arith, as-many n, in-bounds d c s n l st e .few)
 
-  pub line-is : (old new : List ℕ) (r : Line) → Lines (textAt d scratch (suc mostRows) 0) old new r → Lines (textOf d (left .found)) old new r
-  line-is old new r h = rw text-is at h
+  pub rows-used : 0 < st .used
+  rows-used = omega (arith, used-sized, rows-some n)
+
+  pub rows-sound : Sound d (written 0 (sizedOf n) (replicate scratchLength (pos 0))) (st .used)
+  rows-sound = rw used-sized (sound-tree n (replicate scratchLength (pos 0)) (length-replicate scratchLength (pos 0)) d (shaped d o c s n l st e) few)
+
+  pub rows-text : textAt d (written 0 (sizedOf n) (replicate scratchLength (pos 0))) (suc mostRows) 0 ≡ textOf d n
+  rows-text = text-tree n (replicate scratchLength (pos 0)) (length-replicate scratchLength (pos 0)) d (shaped d o c s n l st e) few o
