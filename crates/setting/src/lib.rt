@@ -10,8 +10,8 @@ use format::Section;
 use tables::Table;
 ghost use mathlib.Core.List.{_++_};
 ghost use mathlib.Core.Path.{_≡_};
-ghost use Prim.Native.Nat.{_+_, _-_, _<_};
-ghost use lib.ListN.{length, getD, take, set};
+ghost use Prim.Native.Nat.{_+_, _-_, _<_, _≤_};
+ghost use lib.ListN.{length, getD, take, drop, set};
 ghost use Rattle.format.specs.Numbers.{tables};
 ghost use Rattle.format.specs.Check.{Formed};
 ghost use Rattle.format.specs.Description.{description, noField, noName, noConstructor, noOperand, noPiece};
@@ -21,6 +21,8 @@ ghost use Rattle.decoding_spec.specs.Walk.{choiceIn};
 ghost use mathlib.Core.Bool.{true};
 ghost use Rattle.setting.specs.Fixed.{startsOf, fixedOf, layoutIn, settingIn, Fixed, totalPlace, startsPlace};
 ghost use Rattle.setting.specs.Ranges.{RangeOf};
+
+const TEXT_START: usize = 10;
 
 // Where the input's length stands, whether the tables' first constructors were gathered, and where these start.
 pub const TOTAL: usize = 12;
@@ -189,4 +191,14 @@ pub fn choose_at(
         }
         Choice::Ambiguous => Choice::Ambiguous,
     }
+}
+
+// So many bytes of the text section, from an offset on.
+pub fn letters<'a>(desc: &'a [u8], fixed: &[usize; FIXED], offset: usize, n: usize) -> &'a [u8]
+    requires { ⌜ Fixed (now desc) (now fixed) × (offset + n ≤ length (settingIn (now desc) (now fixed) .description .text)) ⌝ }
+    ensures { λ r. ⌜ now r ≡ take n (drop offset (settingIn (now (desc .entry)) (now (fixed .entry)) .description .text)) ⌝ }
+{
+    let from = fixed[TEXT_START] + offset;
+    let end = from + n;
+    &desc[from..end]
 }

@@ -1,8 +1,8 @@
 -- Laws of the text.
 pub mod Pieces
 mod Writers
-mod Skipping
+mod RowSteps
 mod Parts
-mod Whole
+mod LentText
 pub mod Trees
-pub mod Decoded
+pub mod InstructionText

@@ -1,24 +1,23 @@
 -- Rows that a tree has left: they are sound, and their text is the tree's.
 use Prim.Native.Nat.{ℕ, zero, suc, _+_, _-_, _*_, _≤_, _<_}
-use mathlib.Core.List.{List, [], _∷_, _++_}
+use mathlib.Core.List.{List, [], _∷_, _++_, append-assoc}
 use mathlib.Core.Path.{_≡_, refl, sym, ap, _∙_}
 use native.Mathlib.Decide.{ℕ-discrete, decLt}
 use native.Mathlib.Omega.{arith}
 use borrow.Author.Tests.{eq-eqb, ne-eqb}
 use lib.IntN.{ℤ, pos, natAbs}
-use lib.ListN.{length, getD, take, drop, length-append, take-append-drop}
+use lib.ListN.{length, getD, drop, length-append}
 use lib.Seq.{getD-drop, drop-drop, drop-at}
 use Rattle.format.specs.Numbers.{mostRows}
 use Rattle.format.specs.Description.{Description, noConstructor}
 use Rattle.format.specs.declared.Piece.{Piece}
 use Rattle.format.proofs.Formation.{Obeyed}
-use Rattle.instruction.specs.Tree.{Row, Node, Nodes, built, numbered, named, none, more, rowsOf, rowsOfAll}
-use Rattle.instruction.specs.Facts.{Shaped, ShapedAll, countOf}
-use Rattle.walking.specs.Scratch.{scratchNumbers, scratchLength, scratchRow, scratchOf}
-use Rattle.walking.proofs.Steps.{scratch-length}
+use Rattle.decoding_spec.specs.Tree.{Node, Nodes, built, numbered, named, none, more}
+use Rattle.decoding_theorems.specs.Facts.{Shaped, ShapedAll, countOf}
+use Rattle.walking.specs.Scratch.{scratchNumbers, scratchLength, SizedRow, sized, sizedOf, sizedOfAll, scratchRow, scratchOf, putAt, written}
+use Rattle.walking.proofs.Writing.{scratch-length, scratch-append, written-length}
 use Rattle.text.specs.Text.{pieceText, piecesText, constructorText, textOf, textsOf}
-use Rattle.text.specs.Places.{cell, kindAt, numberAt, lastAt, sizeAt, skip, textAt, Sound}
-use Rattle.text.specs.Places.{Showable}
+use Rattle.text.specs.Places.{cell, kindAt, numberAt, lastAt, sizeAt, skip, textAt, Sound, Showable}
 use Rattle.text.proofs.Pieces.{showable}
 
 by-cases : {P Q : Type 0} → Dec P → (P → Q) → ((P → ⊥) → Q) → Q
@@ -26,16 +25,14 @@ by-cases (yes p) f g = f p
 by-cases (no p) f g = g p
 
 -- a part has its own row
-rows-some : (n : Node) → 1 ≤ length (rowsOf n)
-unfolding rowsOf
+pub rows-some : (n : Node) → 1 ≤ length (sizedOf n)
+unfolding sizedOf
 rows-some (built k s l f) = omega arith
 rows-some (numbered i s v) = omega arith
 rows-some (named i s n) = omega arith
 
-scratch-split : (a b : List Row) (rest : List ℤ) → scratchOf (a ++ b) ++ rest ≡ scratchOf a ++ (scratchOf b ++ rest)
-unfolding scratchOf
-scratch-split [] b rest = refl
-scratch-split (r ∷ a) b rest = ap (λ (l : List ℤ). scratchRow r ++ l) (scratch-split a b rest)
+scratch-split : (a b : List SizedRow) (rest : List ℤ) → scratchOf (a ++ b) ++ rest ≡ scratchOf a ++ (scratchOf b ++ rest)
+scratch-split a b rest = rw scratch-append (append-assoc (scratchOf a) (scratchOf b) rest)
 
 -- a constructor's pieces ask for no other texts than its operands'
 module _ (d : Description) (o : Obeyed d) (k : ℕ) (h : k < length (d .constructors)) (f g : ℕ → List ℕ)
@@ -59,14 +56,14 @@ module _ (d : Description) (o : Obeyed d) (k : ℕ) (h : k < length (d .construc
 
 module _ (rows : List ℤ) where
   -- from row r on these rows stand, and behind them these numbers
-  unfoldable Stands : ℕ → List Row → List ℤ → Type 0
+  unfoldable Stands : ℕ → List SizedRow → List ℤ → Type 0
   Stands r rs rest = drop (scratchNumbers * r) rows ≡ scratchOf rs ++ rest
 
-  stands-first : (r : ℕ) (a b : List Row) (rest : List ℤ) → Stands r (a ++ b) rest → Stands r a (scratchOf b ++ rest)
+  stands-first : (r : ℕ) (a b : List SizedRow) (rest : List ℤ) → Stands r (a ++ b) rest → Stands r a (scratchOf b ++ rest)
   unfolding Stands
   stands-first r a b rest h = h ∙ scratch-split a b rest
 
-  stands-behind : (r n : ℕ) (a b : List Row) (rest : List ℤ) → n ≡ length a → Stands r (a ++ b) rest → Stands (r + n) b rest
+  stands-behind : (r n : ℕ) (a b : List SizedRow) (rest : List ℤ) → n ≡ length a → Stands r (a ++ b) rest → Stands (r + n) b rest
   unfolding Stands
   stands-behind r n a b rest e h =
       let z : scratchNumbers * (r + n) ≡ scratchNumbers * r + scratchNumbers * n = omega arith in
@@ -75,20 +72,20 @@ module _ (rows : List ℤ) where
       ∙ ap (drop (scratchNumbers * n)) (stands-first r a b rest h)
       ∙ drop-at (scratchOf a) (scratchOf b ++ rest) (scratchNumbers * n) (scratch-length a ∙ omega arith))
 
-  module _ (r : ℕ) (x : Row) (rs : List Row) (rest : List ℤ) (h : Stands r (x ∷ rs) rest) where
+  module _ (r : ℕ) (x : SizedRow) (rs : List SizedRow) (rest : List ℤ) (h : Stands r (x ∷ rs) rest) where
     at : (j : ℕ) → cell rows r j ≡ getD (scratchRow x ++ (scratchOf rs ++ rest)) j (pos 0)
     unfolding Stands scratchOf
     at j = sym (getD-drop (scratchNumbers * r) rows j (pos 0)) ∙ ap (λ (l : List ℤ). getD l j (pos 0)) h
 
-    kind-is : kindAt rows r ≡ x .kind
+    kind-is : kindAt rows r ≡ x .row .kind
     unfolding kindAt
     kind-is = ap natAbs (at 0)
 
-    number-is : numberAt rows r ≡ x .number
+    number-is : numberAt rows r ≡ x .row .number
     unfolding numberAt
     number-is = ap natAbs (at 1)
 
-    last-is : lastAt rows r ≡ x .last
+    last-is : lastAt rows r ≡ x .row .last
     unfolding lastAt
     last-is = at 3
 
@@ -97,37 +94,37 @@ module _ (rows : List ℤ) where
     size-is = ap natAbs (at 4)
 
   -- a part's first row says how many rows it has
-  part-size : (n : Node) (r : ℕ) (rest : List ℤ) → Stands r (rowsOf n) rest → sizeAt rows r ≡ length (rowsOf n)
-  unfolding rowsOf
-  part-size (built k s l f) r rest h = size-is r _ (rowsOfAll f) rest h
+  part-size : (n : Node) (r : ℕ) (rest : List ℤ) → Stands r (sizedOf n) rest → sizeAt rows r ≡ length (sizedOf n)
+  unfolding sizedOf
+  part-size (built k s l f) r rest h = size-is r _ (sizedOfAll f) rest h
   part-size (numbered i s v) r rest h = size-is r _ [] rest h
   part-size (named i s n) r rest h = size-is r _ [] rest h
 
   -- the right neighbours of a part
-  neighbours : (n : Node) (f : Nodes) (r : ℕ) (rest : List ℤ) → Stands r (rowsOfAll (more n f)) rest → Stands (r + sizeAt rows r) (rowsOfAll f) rest
-  unfolding rowsOfAll
+  neighbours : (n : Node) (f : Nodes) (r : ℕ) (rest : List ℤ) → Stands r (sizedOfAll (more n f)) rest → Stands (r + sizeAt rows r) (sizedOfAll f) rest
+  unfolding sizedOfAll
   neighbours n f r rest h =
-      stands-behind r (sizeAt rows r) (rowsOf n) (rowsOfAll f) rest
-      (part-size n r (scratchOf (rowsOfAll f) ++ rest) (stands-first r (rowsOf n) (rowsOfAll f) rest h)) h
+      stands-behind r (sizeAt rows r) (sizedOf n) (sizedOfAll f) rest
+      (part-size n r (scratchOf (sizedOfAll f) ++ rest) (stands-first r (sizedOf n) (sizedOfAll f) rest h)) h
 
   -- a constructor's operands
-  inner : (k s l : ℕ) (f : Nodes) (r : ℕ) (rest : List ℤ) → Stands r (rowsOf (built k s l f)) rest → Stands (r + 1) (rowsOfAll f) rest
-  unfolding rowsOf
+  inner : (k s l : ℕ) (f : Nodes) (r : ℕ) (rest : List ℤ) → Stands r (sizedOf (built k s l f)) rest → Stands (r + 1) (sizedOfAll f) rest
+  unfolding sizedOf
   inner k s l f r rest h =
       stands-behind r 1
-      (record { kind = 0; number = k; start = s; last = pos l; size = suc (length (rowsOfAll f)) } ∷ []) (rowsOfAll f) rest refl h
+      (sized 0 k s (pos l) (suc (length (sizedOfAll f))) ∷ []) (sizedOfAll f) rest refl h
 
   -- each of the neighbours has its row among theirs
-  skip-within : (f : Nodes) (r : ℕ) (rest : List ℤ) → Stands r (rowsOfAll f) rest → (j : ℕ) → j < countOf f
-      → (r ≤ skip rows r j) × (skip rows r j < r + length (rowsOfAll f))
-  unfolding skip countOf rowsOfAll
+  skip-within : (f : Nodes) (r : ℕ) (rest : List ℤ) → Stands r (sizedOfAll f) rest → (j : ℕ) → j < countOf f
+      → (r ≤ skip rows r j) × (skip rows r j < r + length (sizedOfAll f))
+  unfolding skip countOf sizedOfAll
   skip-within none r rest h j l = absurd (omega arith)
   skip-within (more n f) r rest h zero l =
-      let few = length-append (rowsOf n) (rowsOfAll f) in
+      let few = length-append (sizedOf n) (sizedOfAll f) in
       (omega arith, omega (arith, few, rows-some n))
   skip-within (more n f) r rest h (suc j) l =
-      let few = length-append (rowsOf n) (rowsOfAll f) in
-      let size = part-size n r (scratchOf (rowsOfAll f) ++ rest) (stands-first r (rowsOf n) (rowsOfAll f) rest h) in
+      let few = length-append (sizedOf n) (sizedOfAll f) in
+      let size = part-size n r (scratchOf (sizedOfAll f) ++ rest) (stands-first r (sizedOf n) (sizedOfAll f) rest h) in
       let next = skip-within f (r + sizeAt rows r) rest (neighbours n f r rest h) j (omega arith) in
       (omega (arith, next .0), omega (arith, next .1))
 
@@ -141,11 +138,11 @@ module _ (rows : List ℤ) where
       names : (kindAt rows r ≡ 0 → ⊥) → (kindAt rows r ≡ 1 → ⊥) → natAbs (lastAt rows r) < length (d .names)
 
     -- a part's first row
-    first-sound : (n : Node) (r : ℕ) (rest : List ℤ) → Shaped d n → Stands r (rowsOf n) rest → SoundRow (r + length (rowsOf n)) r
-    unfolding rowsOf
+    first-sound : (n : Node) (r : ℕ) (rest : List ℤ) → Shaped d n → Stands r (sizedOf n) rest → SoundRow (r + length (sizedOf n)) r
+    unfolding sizedOf
     first-sound (built k s l f) r rest shaped h =
-        let kind = kind-is r _ (rowsOfAll f) rest h in
-        let number = number-is r _ (rowsOfAll f) rest h in
+        let kind = kind-is r _ (sizedOfAll f) rest h in
+        let number = number-is r _ (sizedOfAll f) rest h in
         record {
           constructors = λ z. omega (arith, shaped .0);
           operands = λ z j b.
@@ -184,45 +181,45 @@ module _ (rows : List ℤ) where
 
     module _ (end : ℕ) where
       -- a part's first row, or one of the others
-      either : (n : Node) (r : ℕ) (rest : List ℤ) → Shaped d n → Stands r (rowsOf n) rest → r + length (rowsOf n) ≤ end
+      either : (n : Node) (r : ℕ) (rest : List ℤ) → Shaped d n → Stands r (sizedOf n) rest → r + length (sizedOf n) ≤ end
           → (q : ℕ) → r ≤ q → (r < q → SoundRow end q) → SoundRow end q
       either n r rest shaped h e q l f =
           by-cases (decLt r q) f
-          (λ p. let z : q ≡ r = omega arith in rw z (longer (r + length (rowsOf n)) end r e (first-sound n r rest shaped h)))
+          (λ p. let z : q ≡ r = omega arith in rw z (longer (r + length (sizedOf n)) end r e (first-sound n r rest shaped h)))
 
       mutual
-        unfolding rowsOf rowsOfAll
+        unfolding sizedOf sizedOfAll
 
-        part-sound : (n : Node) (r : ℕ) (rest : List ℤ) → Shaped d n → Stands r (rowsOf n) rest → r + length (rowsOf n) ≤ end
-            → (q : ℕ) → r ≤ q → q < r + length (rowsOf n) → SoundRow end q
+        part-sound : (n : Node) (r : ℕ) (rest : List ℤ) → Shaped d n → Stands r (sizedOf n) rest → r + length (sizedOf n) ≤ end
+            → (q : ℕ) → r ≤ q → q < r + length (sizedOf n) → SoundRow end q
         part-sound (built k s l f) r rest shaped h e q a b =
             either (built k s l f) r rest shaped h e q a
             (λ c. parts-sound f (r + 1) rest (shaped .2) (inner k s l f r rest h) (omega arith) q (omega arith) (omega arith))
         part-sound (numbered i s v) r rest shaped h e q a b = either (numbered i s v) r rest shaped h e q a (λ c. absurd (omega arith))
         part-sound (named i s n) r rest shaped h e q a b = either (named i s n) r rest shaped h e q a (λ c. absurd (omega arith))
 
-        parts-sound : (f : Nodes) (r : ℕ) (rest : List ℤ) → ShapedAll d f → Stands r (rowsOfAll f) rest → r + length (rowsOfAll f) ≤ end
-            → (q : ℕ) → r ≤ q → q < r + length (rowsOfAll f) → SoundRow end q
+        parts-sound : (f : Nodes) (r : ℕ) (rest : List ℤ) → ShapedAll d f → Stands r (sizedOfAll f) rest → r + length (sizedOfAll f) ≤ end
+            → (q : ℕ) → r ≤ q → q < r + length (sizedOfAll f) → SoundRow end q
         parts-sound none r rest shaped h e q a b = absurd (omega arith)
         parts-sound (more n f) r rest shaped h e q a b =
-            let few = length-append (rowsOf n) (rowsOfAll f) in
-            let own = stands-first r (rowsOf n) (rowsOfAll f) rest h in
-            let size = part-size n r (scratchOf (rowsOfAll f) ++ rest) own in
-            by-cases (decLt q (r + length (rowsOf n)))
-            (λ p. part-sound n r (scratchOf (rowsOfAll f) ++ rest) (shaped .0) own (omega arith) q a p)
+            let few = length-append (sizedOf n) (sizedOfAll f) in
+            let own = stands-first r (sizedOf n) (sizedOfAll f) rest h in
+            let size = part-size n r (scratchOf (sizedOfAll f) ++ rest) own in
+            by-cases (decLt q (r + length (sizedOf n)))
+            (λ p. part-sound n r (scratchOf (sizedOfAll f) ++ rest) (shaped .0) own (omega arith) q a p)
             (λ p. parts-sound f (r + sizeAt rows r) rest (shaped .1) (neighbours n f r rest h) (omega arith) q (omega arith) (omega arith))
 
     -- the text by the places is the tree's, where the depth leaves none of its rows out
     module _ (o : Obeyed d) where
       mutual
-        unfolding rowsOf rowsOfAll countOf skip textAt textOf textsOf
+        unfolding sizedOf sizedOfAll countOf skip textAt textOf textsOf
 
-        part-text : (n : Node) (r depth : ℕ) (rest : List ℤ) → Shaped d n → Stands r (rowsOf n) rest → length (rowsOf n) ≤ depth
+        part-text : (n : Node) (r depth : ℕ) (rest : List ℤ) → Shaped d n → Stands r (sizedOf n) rest → length (sizedOf n) ≤ depth
             → textAt d rows depth r ≡ textOf d n
         part-text (built k s l f) r zero rest shaped h b = absurd (omega arith)
         part-text (built k s l f) r (suc depth) rest shaped h b =
-            let kind = kind-is r _ (rowsOfAll f) rest h in
-            let number = number-is r _ (rowsOfAll f) rest h in
+            let kind = kind-is r _ (sizedOfAll f) rest h in
+            let number = number-is r _ (sizedOfAll f) rest h in
             rw (eq-eqb (kindAt rows r) 0 kind, number)
             (constructor-same d o k (shaped .0) (λ n. textAt d rows depth (skip rows (r + 1) (n - 1))) (λ n. getD (textsOf d f) (n - 1) [])
             (λ n some few. parts-text f (r + 1) depth rest (shaped .2) (inner k s l f r rest h) (omega arith) (n - 1) (omega (arith, shaped .1))))
@@ -238,40 +235,36 @@ module _ (rows : List ℤ) where
             let last = last-is r _ [] rest h in
             rw (kind, last)
 
-        parts-text : (f : Nodes) (r depth : ℕ) (rest : List ℤ) → ShapedAll d f → Stands r (rowsOfAll f) rest → length (rowsOfAll f) ≤ depth
+        parts-text : (f : Nodes) (r depth : ℕ) (rest : List ℤ) → ShapedAll d f → Stands r (sizedOfAll f) rest → length (sizedOfAll f) ≤ depth
             → (j : ℕ) → j < countOf f → textAt d rows depth (skip rows r j) ≡ getD (textsOf d f) j []
         parts-text none r depth rest shaped h l j c = absurd (omega arith)
         parts-text (more n f) r depth rest shaped h l zero c =
-            part-text n r depth (scratchOf (rowsOfAll f) ++ rest) (shaped .0) (stands-first r (rowsOf n) (rowsOfAll f) rest h)
-            (omega (arith, length-append (rowsOf n) (rowsOfAll f)))
+            part-text n r depth (scratchOf (sizedOfAll f) ++ rest) (shaped .0) (stands-first r (sizedOf n) (sizedOfAll f) rest h)
+            (omega (arith, length-append (sizedOf n) (sizedOfAll f)))
         parts-text (more n f) r depth rest shaped h l (suc j) c =
             parts-text f (r + sizeAt rows r) depth rest (shaped .1) (neighbours n f r rest h)
-            (omega (arith, length-append (rowsOf n) (rowsOfAll f))) j (omega arith)
+            (omega (arith, length-append (sizedOf n) (sizedOfAll f))) j (omega arith)
 
-module _ (d : Description) where
-  -- a tree's rows, from the first on
-  stands-all : (n : Node) (rows : List ℤ) (used : ℕ) → take (scratchNumbers * used) rows ≡ scratchOf (rowsOf n)
-      → Stands rows 0 (rowsOf n) (drop (scratchNumbers * used) rows)
-  unfolding Stands
-  stands-all n rows used h =
-      sym (take-append-drop (scratchNumbers * used) rows) ∙ ap (λ (l : List ℤ). l ++ drop (scratchNumbers * used) rows) h
+-- the scratch rows that a tree has left, from the first on
+module _ (n : Node) (old : List ℤ) (long : length old ≡ scratchLength) where
+  stands-all : Stands (written 0 (sizedOf n) old) 0 (sizedOf n) (drop (0 + length (scratchOf (sizedOf n))) old)
+  unfolding Stands written putAt
+  stands-all = rw long
 
-  pub sound-tree : (n : Node) (rows : List ℤ) (used : ℕ) → Shaped d n → length rows ≡ scratchLength → used ≡ length (rowsOf n) → used ≤ mostRows
-      → take (scratchNumbers * used) rows ≡ scratchOf (rowsOf n) → Sound d rows used
-  sound-tree n rows used shaped long count few h =
-      record {
-        long = long;
-        few = few;
-        constructors = λ r l. row r l .constructors;
-        operands = λ r l. row r l .operands;
-        fields = λ r l. row r l .fields;
-        names = λ r l. row r l .names;
-      }
-    where
-      row : (r : ℕ) → r < used → SoundRow rows d used r
-      row r l = part-sound rows d used n 0 _ shaped (stands-all n rows used h) (omega arith) r (omega arith) (omega arith)
+  module _ (d : Description) (shaped : Shaped d n) (few : length (sizedOf n) ≤ mostRows) where
+    pub sound-tree : Sound d (written 0 (sizedOf n) old) (length (sizedOf n))
+    sound-tree =
+        record {
+          long = written-length 0 (sizedOf n) old (omega arith) ∙ long;
+          few = few;
+          constructors = λ r l. row r l .constructors;
+          operands = λ r l. row r l .operands;
+          fields = λ r l. row r l .fields;
+          names = λ r l. row r l .names;
+        }
+      where
+        row : (r : ℕ) → r < length (sizedOf n) → SoundRow (written 0 (sizedOf n) old) d (length (sizedOf n)) r
+        row r l = part-sound (written 0 (sizedOf n) old) d (length (sizedOf n)) n 0 _ shaped stands-all (omega arith) r (omega arith) (omega arith)
 
-  pub text-tree : Obeyed d → (n : Node) (rows : List ℤ) (used : ℕ) → Shaped d n → length rows ≡ scratchLength → used ≡ length (rowsOf n)
-      → used ≤ mostRows → take (scratchNumbers * used) rows ≡ scratchOf (rowsOf n) → textAt d rows (suc mostRows) 0 ≡ textOf d n
-  text-tree o n rows used shaped long count few h =
-      part-text rows d o n 0 (suc mostRows) _ shaped (stands-all n rows used h) (omega arith)
+    pub text-tree : Obeyed d → textAt d (written 0 (sizedOf n) old) (suc mostRows) 0 ≡ textOf d n
+    text-tree o = part-text (written 0 (sizedOf n) old) d o n 0 (suc mostRows) _ shaped stands-all (omega arith)

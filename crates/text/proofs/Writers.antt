@@ -6,28 +6,24 @@ use mathlib.Core.Bool.{Bool, true, false, cond}
 use mathlib.Core.Path.{_≡_, refl, sym, ap, _∙_}
 use native.Mathlib.Omega.{arith}
 use lib.Dec.{eqb}
-use lib.ListN.{length, getD, take, drop, length-append, length-drop}
-use lib.Seq.{take-at, length-take-le, getD-take, getD-drop, ext-getD}
-use Rattle.format.specs.Layout.{Room}
-use Rattle.format.specs.Description.{description, textOf}
-use Rattle.format.specs.declared.Layout.{Layout}
-use Rattle.format.proofs.Lists.{text-length, letter-here}
+use lib.ListN.{length, take, drop, length-append, length-drop}
+use lib.Seq.{take-at, length-take-le}
 use Rattle.fields.specs.Look.{lookOf}
 use Rattle.fields.specs.declared.Look.the-variants.{Number, Name}
 use Rattle.printing.specs.Writing.{Puts, over}
 use Rattle.printing.specs.declared.Printed.{Printed}
 use Rattle.printing.specs.declared.Printed.the-variants.{Wrote, Full}
 use Rattle.printing.proofs.Writing.{Done, puts-wrote, puts-full, part-over, over-take}
-use Rattle.text.specs.Text.{baseOf, letters}
-use Rattle.text.specs.Adding.{Added, Adds}
+use Rattle.text.specs.Text.{baseOf}
+use Rattle.text.specs.Append.{Appended, Appends}
 
 module _ (at : ℕ) (w before mid : List ℕ) (r : Printed) (room : at ≤ length before) (part : List ℕ)
     (lent : part ≡ take (length before - at) (drop at before)) (puts : Puts w part mid r) where
   part-length : length part ≡ length before - at
   part-length = rw lent (length-take-le (length before - at) (drop at before) (omega (arith, length-drop at before)) ∙ refl)
 
-  pub adds-full : (after : List ℕ) → r ≡ Full → Adds at w before after Full
-  adds-full after e = record { is = omega (arith, puts-full puts e .0, part-length) }
+  pub appends-full : (after : List ℕ) → r ≡ Full → Appends at w before after Full
+  appends-full after e = record { is = omega (arith, puts-full puts e .0, part-length) }
 
   module _ (n : ℕ) (e : r ≡ Wrote n) where
     wrote : Done w part mid n
@@ -36,9 +32,9 @@ module _ (at : ℕ) (w before mid : List ℕ) (r : Printed) (room : at ≤ lengt
     pub end-within : at + n ≤ length before
     end-within = omega (arith, wrote .fits, wrote .count, part-length)
 
-    pub adds-wrote : Adds at w before (take at before ++ (mid ++ drop (length before - at) (drop at before))) (Wrote (at + n))
+    pub appends-wrote : Appends at w before (take at before ++ (mid ++ drop (length before - at) (drop at before))) (Wrote (at + n))
     unfolding over
-    adds-wrote =
+    appends-wrote =
         let front = take at before ++ w in
         let long : length front ≡ at + n = length-append (take at before) w ∙ omega (arith, length-take-le at before room, wrote .count) in
         let whole : take at before ++ (mid ++ drop (length before - at) (drop at before)) ≡ over front before =
@@ -53,13 +49,13 @@ module _ (at : ℕ) (w before mid : List ℕ) (r : Printed) (room : at ≤ lengt
         }
 
 -- nothing is written yet
-pub added-none : (at : ℕ) (l : List ℕ) → at ≤ length l → Added at [] l l at
-added-none at l h = record { fits = h; ends = omega arith; holds = sym (append-nil (take at l)) }
+pub appended-none : (at : ℕ) (l : List ℕ) → at ≤ length l → Appended at [] l l at
+appended-none at l h = record { fits = h; ends = omega arith; holds = sym (append-nil (take at l)) }
 
 -- one part more
-pub added-more : (at : ℕ) (v w before mid after : List ℕ) (middle end : ℕ) → length mid ≡ length before → Added at v before mid middle
-    → Added middle w mid after end → Added at (v ++ w) before after end
-added-more at v w before mid after middle end l f g =
+pub appended-more : (at : ℕ) (v w before mid after : List ℕ) (middle end : ℕ) → length mid ≡ length before → Appended at v before mid middle
+    → Appended middle w mid after end → Appended at (v ++ w) before after end
+appended-more at v w before mid after middle end l f g =
     record {
       fits = omega (arith, g .fits);
       ends = omega (arith, f .ends, g .ends, length-append v w);
@@ -67,30 +63,9 @@ added-more at v w before mid after middle end l f g =
     }
 
 -- a text that has no room for a part has none for more
-pub full-more : (at : ℕ) (v w before mid after : List ℕ) (middle : ℕ) → length mid ≡ length before → Added at v before mid middle
-    → Adds middle w mid after Full → length before < at + length (v ++ w)
+pub full-more : (at : ℕ) (v w before mid after : List ℕ) (middle : ℕ) → length mid ≡ length before → Appended at v before mid middle
+    → Appends middle w mid after Full → length before < at + length (v ++ w)
 full-more at v w before mid after middle l f g = omega (arith, f .ends, g .is, length-append v w)
-
--- the bytes of the text section, as they stand in the description
-pub letters-are : (b : List ℕ) (l : Layout) (offset n from end : ℕ) → Room b l → offset + n ≤ l .text .count → from ≡ l .text .start + offset
-    → end ≡ from + n → take (end - from) (drop from b) ≡ letters (description b l) offset n
-unfolding letters
-letters-are b l offset n from end room h f e =
-    ext-getD 0 (take (end - from) (drop from b)) (take n (drop offset (textOf b l))) (long ∙ sym short) at
-  where
-    long : length (take (end - from) (drop from b)) ≡ n
-    long = length-take-le (end - from) (drop from b) (omega (arith, length-drop from b, room .text)) ∙ omega arith
-
-    short : length (take n (drop offset (textOf b l))) ≡ n
-    short = length-take-le n (drop offset (textOf b l)) (omega (arith, length-drop offset (textOf b l), text-length b l))
-
-    at : (i : ℕ) → i < length (take (end - from) (drop from b)) → getD (take (end - from) (drop from b)) i 0 ≡ getD (take n (drop offset (textOf b l))) i 0
-    at i g =
-        let k : i < n = omega (arith, long) in
-        let z : from + i ≡ l .text .start + (offset + i) = omega arith in
-        getD-take (end - from) (drop from b) i 0 (omega arith) ∙ getD-drop from b i 0 ∙ ap (λ (j : ℕ). getD b j 0) z
-        ∙ sym (letter-here b l (offset + i) (omega arith)) ∙ sym (getD-drop offset (textOf b l) i 0)
-        ∙ sym (getD-take n (drop offset (textOf b l)) i 0 k)
 
 -- a look's base is 10 or 16
 pub base-known : (look : ℕ) → (baseOf (lookOf look) ≡ 10) ⊎ (baseOf (lookOf look) ≡ 16)

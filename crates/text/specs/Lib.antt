@@ -1,5 +1,6 @@
 -- The text of a decoded instruction (document 01, "Decoding", Text).
 pub mod Text
 pub mod Places
-pub mod Adding
+pub mod Append
+pub mod Prints
 pub mod Lines

@@ -2,22 +2,17 @@
 use Prim.Native.Nat.{ℕ}
 use mathlib.Core.Bool.{cond}
 use mathlib.Core.List.{List}
-use mathlib.Core.Path.{_≡_}
 use lib.Dec.{leb}
 use lib.ListN.{length}
 use Rattle.format.specs.Numbers.{longestText}
 use Rattle.printing.specs.Writing.{over}
 use Rattle.text.specs.declared.Line.{Line}
-use Rattle.text.specs.declared.Line.the-variants.{Written, Long, NoRoom}
+use Rattle.text.specs.declared.Line.the-variants.{Written, TextTooLong, NoRoom}
 
 -- "10 (text only), 9": with room for so many bytes
 abbrev pub lineOf : List ℕ → ℕ → Line
-lineOf w room = cond (leb (length w) longestText) (cond (leb (length w) room) (Written (length w)) NoRoom) Long
+lineOf w room = cond (leb (length w) longestText) (cond (leb (length w) room) (Written (length w)) NoRoom) TextTooLong
 
 -- the lent bytes afterwards
 abbrev pub lentAfter : List ℕ → List ℕ → List ℕ
 lentAfter w old = cond (leb (length w) longestText) (cond (leb (length w) (length old)) (over w old) old) old
-
-pub record Lines (w before after : List ℕ) (r : Line) : Type 0 where
-  pub answer : r ≡ lineOf w (length before)
-  pub holds : after ≡ lentAfter w before

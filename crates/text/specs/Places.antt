@@ -1,11 +1,11 @@
 -- The same text, read off the scratch rows by their places: what the code computes.
 use Prim.Native.Nat.{ℕ, zero, suc, _+_, _-_, _*_, _≤_, _<_}
 use mathlib.Core.Bool.{cond}
-use mathlib.Core.List.{List, [], _++_}
+use mathlib.Core.List.{List, []}
 use mathlib.Core.Path.{_≡_}
 use lib.Dec.{eqb}
 use lib.IntN.{ℤ, pos, natAbs}
-use lib.ListN.{length, getD, take}
+use lib.ListN.{length, getD}
 use Rattle.format.specs.Numbers.{mostRows}
 use Rattle.format.specs.Description.{Description, noField, noConstructor}
 use Rattle.format.specs.declared.Constructor.{Constructor}
@@ -53,6 +53,10 @@ module _ (d : Description) (rows : List ℤ) where
       (cond (eqb (kindAt rows r) 1)
       (numberText (baseOf (lookOf (getD (d .fields) (numberAt rows r) noField .look))) (lastAt rows r))
       (nameText d (natAbs (lastAt rows r))))
+
+  -- that of operand n of the constructor at row r
+  abbrev pub operandText : (r depth n : ℕ) → List ℕ
+  operandText r depth n = textAt depth (skip rows (r + 1) (n - 1))
 
   -- the rows' numbers are those of the description's records, and each operand of a constructor has its row behind it
   pub record Sound (used : ℕ) : Type 0 where

@@ -12,7 +12,7 @@ use Rattle.fields.specs.Look.{lookOf}
 use Rattle.fields.specs.declared.Look.{Look}
 use Rattle.fields.specs.declared.Look.the-variants as look
 use Rattle.printing.specs.Numerals.{numberText}
-use Rattle.instruction.specs.Tree.{Node, Nodes, built, numbered, named, none, more}
+use Rattle.decoding_spec.specs.Tree.{Node, Nodes, built, numbered, named, none, more}
 
 -- the base in which a look shows a number
 abbrev pub baseOf : Look → ℕ

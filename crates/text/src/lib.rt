@@ -1,24 +1,22 @@
 // The text of a decoded instruction, printed from the scratch rows that the walk has left.
 use fields::Look;
-use format::Layout;
 use printing::Printed;
-ghost use mathlib.Core.List.{List};
+use setting::FIXED;
 ghost use mathlib.Core.Logic.{_⊎_};
 ghost use mathlib.Core.Path.{_≡_};
-ghost use Prim.Native.Nat.{ℕ, suc, _+_, _-_, _*_, _<_, _≤_};
+ghost use Prim.Native.Nat.{_+_, _<_, _≤_};
 ghost use lib.IntN.{pos, natAbs};
 ghost use lib.ListN.{length, getD};
 ghost use Rattle.format.specs.Numbers.{mostRows};
-ghost use Rattle.format.specs.Layout.{Room};
-ghost use Rattle.format.specs.Check.{Formed};
-ghost use Rattle.format.specs.Description.{description, fieldsOf, constructorsOf, piecesOf, noField, noConstructor, noPiece};
 ghost use Rattle.fields.specs.Look.{lookOf};
 ghost use Rattle.printing.specs.Numerals.{numberText};
-ghost use Rattle.walking.specs.Scratch.{scratchNumbers, scratchLength};
-ghost use Rattle.text.specs.Text.{baseOf, letters, pieceText, constructorText, nameText};
-ghost use Rattle.text.specs.Places.{kindAt, numberAt, skip, textAt, Sound, Showable};
-ghost use Rattle.text.specs.Adding.{Adds};
-ghost use Rattle.text.specs.Lines.{Lines};
+ghost use Rattle.setting.specs.Fixed.{Fixed};
+ghost use Rattle.walking.specs.Scratch.{scratchLength};
+ghost use Rattle.text.specs.Text.{baseOf};
+ghost use Rattle.text.specs.Places.{kindAt, skip, Sound};
+ghost use Rattle.text.specs.Append.{Appends};
+ghost use Rattle.text.specs.Lines.{lineOf, lentAfter};
+ghost use Rattle.text.specs.Prints.{described, wholeText, Printable, ValueRow, PieceRow, LettersPrinted, NamePrinted, FieldPrinted, PartPrinted, PiecePrinted, ConstructorPrinted};
 
 const COLUMNS: usize = walking::SCRATCH_NUMBERS;
 
@@ -58,66 +56,65 @@ fn base_of(look: u8) -> u8
 // Bytes of the text section. The part behind the bytes already written is lent on.
 fn put_letters(
     desc: &[u8],
-    layout: Layout,
+    fixed: &[usize; FIXED],
     offset: usize,
     n: usize,
     out: &mut [u8],
     at: usize,
 ) -> Printed
-    requires { ⌜ Room (now desc) layout ⌝ }
-    requires { ⌜ (offset + n ≤ layout .text .count) × (at ≤ length (now out)) ⌝ }
-    ensures { λ r. ⌜ Adds at (letters (description (now (desc .entry)) layout) offset n) (now (out .entry)) (now (out .exit)) r ⌝ }
+    requires { ⌜ Fixed (now desc) (now fixed) × (offset + n ≤ length (described (now desc) (now fixed) .text)) ⌝ }
+    requires { ⌜ at ≤ length (now out) ⌝ }
+    ensures { λ p. ⌜ LettersPrinted (now (desc .entry)) (now (fixed .entry)) at (now (out .entry)) (now (out .exit)) p offset n ⌝ }
 {
-    let from = layout.text.start + offset;
-    let end = from + n;
-    let put = printing::put_bytes(&desc[from..end], &mut out[at..]);
+    let letters = setting::letters(desc, fixed, offset, n);
+    let put = printing::put_bytes(letters, &mut out[at..]);
     match put {
         Printed::Full => Printed::Full,
-        Printed::Wrote(count) => Printed::Wrote(at + count),
+        Printed::Wrote(count) => {
+            let end = at + count;
+            Printed::Wrote(end)
+        }
     }
 }
 
 fn put_value(value: i64, base: u8, out: &mut [u8], at: usize) -> Printed
     requires { ⌜ ((base ≡ 10) ⊎ (base ≡ 16)) × (at ≤ length (now out)) ⌝ }
-    ensures { λ r. ⌜ Adds at (numberText base value) (now (out .entry)) (now (out .exit)) r ⌝ }
+    ensures { λ p. ⌜ Appends at (numberText base value) (now (out .entry)) (now (out .exit)) p ⌝ }
 {
     let put = printing::put_number(value, base, &mut out[at..]);
     match put {
         Printed::Full => Printed::Full,
-        Printed::Wrote(count) => Printed::Wrote(at + count),
+        Printed::Wrote(count) => {
+            let end = at + count;
+            Printed::Wrote(end)
+        }
     }
 }
 
-fn put_name(desc: &[u8], layout: Layout, n: usize, out: &mut [u8], at: usize) -> Printed
-    requires { ⌜ Formed (now desc) layout ⌝ }
-    requires { ⌜ (n < layout .names .count) × (at ≤ length (now out)) ⌝ }
-    ensures { λ r. ⌜ Adds at (nameText (description (now (desc .entry)) layout) n) (now (out .entry)) (now (out .exit)) r ⌝ }
+fn put_name(desc: &[u8], fixed: &[usize; FIXED], n: usize, out: &mut [u8], at: usize) -> Printed
+    requires { ⌜ Fixed (now desc) (now fixed) × (n < length (described (now desc) (now fixed) .names)) ⌝ }
+    requires { ⌜ at ≤ length (now out) ⌝ }
+    ensures { λ p. ⌜ NamePrinted (now (desc .entry)) (now (fixed .entry)) at (now (out .entry)) (now (out .exit)) p n ⌝ }
 {
-    let name = sections::name_at(desc, layout, n);
-    put_letters(
-        desc,
-        layout,
-        name.offset as usize,
-        name.length as usize,
-        out,
-        at,
-    )
+    let name = setting::name(desc, fixed, n);
+    let offset = name.offset as usize;
+    put_letters(desc, fixed, offset, name.length as usize, out, at)
 }
 
 // A field's number, in its look's base.
 fn put_field(
     desc: &[u8],
-    layout: Layout,
+    fixed: &[usize; FIXED],
     index: usize,
     value: i64,
     out: &mut [u8],
     at: usize,
 ) -> Printed
-    requires { ⌜ Room (now desc) layout ⌝ }
-    requires { ⌜ (index < layout .fields .count) × (at ≤ length (now out)) ⌝ }
-    ensures { λ r. ⌜ Adds at (numberText (baseOf (lookOf (getD (fieldsOf (now (desc .entry)) layout) index noField .look))) value) (now (out .entry)) (now (out .exit)) r ⌝ }
+    requires { ⌜ Fixed (now desc) (now fixed) × (index < length (described (now desc) (now fixed) .fields)) ⌝ }
+    requires { ⌜ at ≤ length (now out) ⌝ }
+    ensures { λ p. ⌜ FieldPrinted (now (desc .entry)) (now (fixed .entry)) at (now (out .entry)) (now (out .exit)) p index value ⌝ }
 {
-    let field = sections::field_at(desc, layout, index);
+    let field = setting::field(desc, fixed, index);
     let base = base_of(field.look);
     put_value(value, base, out, at)
 }
@@ -125,7 +122,7 @@ fn put_field(
 // A field or a name, by its row.
 fn print_value(
     desc: &[u8],
-    layout: Layout,
+    fixed: &[usize; FIXED],
     rows: &[i64],
     used: usize,
     r: usize,
@@ -133,24 +130,22 @@ fn print_value(
     out: &mut [u8],
     at: usize,
 ) -> Printed
-    requires { ⌜ Formed (now desc) layout ⌝ }
-    requires { ⌜ Sound (description (now desc) layout) (now rows) used ⌝ }
-    requires { ⌜ (r < used) × (at ≤ length (now out)) ⌝ }
-    requires { ⌜ (kind ≡ kindAt (now rows) r) × (kind ≡ 0 → ⊥) ⌝ }
-    ensures { λ p. ⌜ ((depth : ℕ) → mostRows < r + depth → Adds at (textAt (description (now (desc .entry)) layout) (now (rows .entry)) depth r) (now (out .entry)) (now (out .exit)) p) ⌝ }
+    requires { ⌜ Printable (now desc) (now fixed) (now rows) used r (now out) at ⌝ }
+    requires { ⌜ ValueRow (now rows) r kind ⌝ }
+    ensures { λ p. ⌜ PartPrinted (now (desc .entry)) (now (fixed .entry)) at (now (out .entry)) (now (out .exit)) p (now (rows .entry)) r ⌝ }
 {
     let last = COLUMNS * r + 3;
     if kind == 1 {
         let index = column(rows, COLUMNS * r + 1);
-        return put_field(desc, layout, index, rows[last], out, at);
+        return put_field(desc, fixed, index, rows[last], out, at);
     }
-    put_name(desc, layout, column(rows, last), out, at)
+    put_name(desc, fixed, column(rows, last), out, at)
 }
 
 // A piece of the constructor at row r.
 fn print_piece(
     desc: &[u8],
-    layout: Layout,
+    fixed: &[usize; FIXED],
     rows: &[i64],
     used: usize,
     r: usize,
@@ -158,44 +153,41 @@ fn print_piece(
     out: &mut [u8],
     at: usize,
 ) -> Printed
-    requires { ⌜ Formed (now desc) layout ⌝ }
-    requires { ⌜ Sound (description (now desc) layout) (now rows) used ⌝ }
-    requires { ⌜ (r < used) × (at ≤ length (now out)) × (i < layout .pieces .count) ⌝ }
-    requires { ⌜ (kindAt (now rows) r ≡ 0) × Showable (description (now desc) layout) (getD (constructorsOf (now desc) layout) (numberAt (now rows) r) noConstructor) (getD (piecesOf (now desc) layout) i noPiece) ⌝ }
-    ensures { λ p. ⌜ ((depth : ℕ) → mostRows < r + 1 + depth → Adds at (pieceText (description (now (desc .entry)) layout) (λ n. textAt (description (now (desc .entry)) layout) (now (rows .entry)) depth (skip (now (rows .entry)) (r + 1) (n - 1))) (getD (piecesOf (now (desc .entry)) layout) i noPiece)) (now (out .entry)) (now (out .exit)) p) ⌝ }
+    requires { ⌜ Printable (now desc) (now fixed) (now rows) used r (now out) at ⌝ }
+    requires { ⌜ PieceRow (now desc) (now fixed) (now rows) r i ⌝ }
+    ensures { λ p. ⌜ PiecePrinted (now (desc .entry)) (now (fixed .entry)) at (now (out .entry)) (now (out .exit)) p (now (rows .entry)) r i ⌝ }
 {
-    let piece = sections::piece_at(desc, layout, i);
+    let piece = setting::piece(desc, fixed, i);
     let n = piece.n as usize;
     if piece.kind == 0 {
-        return put_letters(desc, layout, piece.offset as usize, n, out, at);
+        return put_letters(desc, fixed, piece.offset as usize, n, out, at);
     }
     let row = row_behind(rows, r + 1, n - 1);
-    print_part(desc, layout, rows, used, row, out, at)
+    print_part(desc, fixed, rows, used, row, out, at)
 }
 
 // The constructor at row r: its pieces in order, each behind the bytes already written.
 fn print_constructor(
     desc: &[u8],
-    layout: Layout,
+    fixed: &[usize; FIXED],
     rows: &[i64],
     used: usize,
     r: usize,
     out: &mut [u8],
     at: usize,
 ) -> Printed
-    requires { ⌜ Formed (now desc) layout ⌝ }
-    requires { ⌜ Sound (description (now desc) layout) (now rows) used ⌝ }
-    requires { ⌜ (r < used) × (at ≤ length (now out)) × (kindAt (now rows) r ≡ 0) ⌝ }
-    ensures { λ p. ⌜ ((depth : ℕ) → mostRows < r + 1 + depth → Adds at (constructorText (description (now (desc .entry)) layout) (numberAt (now (rows .entry)) r) (λ n. textAt (description (now (desc .entry)) layout) (now (rows .entry)) depth (skip (now (rows .entry)) (r + 1) (n - 1)))) (now (out .entry)) (now (out .exit)) p) ⌝ }
+    requires { ⌜ Printable (now desc) (now fixed) (now rows) used r (now out) at ⌝ }
+    requires { ⌜ kindAt (now rows) r ≡ 0 ⌝ }
+    ensures { λ p. ⌜ ConstructorPrinted (now (desc .entry)) (now (fixed .entry)) at (now (out .entry)) (now (out .exit)) p (now (rows .entry)) r ⌝ }
 {
     let number = column(rows, COLUMNS * r + 1);
-    let constructor = sections::constructor_at(desc, layout, number);
+    let constructor = setting::constructor(desc, fixed, number);
     let first = constructor.pieces.first as usize;
     let count = constructor.pieces.count as usize;
     let mut end = at;
     let mut q = 0;
     while q < count {
-        let put = print_piece(desc, layout, rows, used, r, first + q, out, end);
+        let put = print_piece(desc, fixed, rows, used, r, first + q, out, end);
         match put {
             Printed::Full => {
                 return Printed::Full;
@@ -212,43 +204,47 @@ fn print_constructor(
 // The part at row r: a constructor, or a value.
 fn print_part(
     desc: &[u8],
-    layout: Layout,
+    fixed: &[usize; FIXED],
     rows: &[i64],
     used: usize,
     r: usize,
     out: &mut [u8],
     at: usize,
 ) -> Printed
-    requires { ⌜ Formed (now desc) layout ⌝ }
-    requires { ⌜ Sound (description (now desc) layout) (now rows) used ⌝ }
-    requires { ⌜ (r < used) × (at ≤ length (now out)) ⌝ }
-    ensures { λ p. ⌜ ((depth : ℕ) → mostRows < r + depth → Adds at (textAt (description (now (desc .entry)) layout) (now (rows .entry)) depth r) (now (out .entry)) (now (out .exit)) p) ⌝ }
+    requires { ⌜ Printable (now desc) (now fixed) (now rows) used r (now out) at ⌝ }
+    ensures { λ p. ⌜ PartPrinted (now (desc .entry)) (now (fixed .entry)) at (now (out .entry)) (now (out .exit)) p (now (rows .entry)) r ⌝ }
 {
     let kind = column(rows, COLUMNS * r);
     if kind == 0 {
-        return print_constructor(desc, layout, rows, used, r, out, at);
+        return print_constructor(desc, fixed, rows, used, r, out, at);
     }
-    print_value(desc, layout, rows, used, r, kind, out, at)
+    print_value(desc, fixed, rows, used, r, kind, out, at)
 }
 
 // How many bytes a whole text has; or that it is too long, or longer than the lent part.
 pub enum Line {
     Written(usize),
-    Long,
+    TextTooLong,
     NoRoom,
 }
 
 // The text of the whole instruction, made in a text of its own and copied when it is known to fit.
-pub fn print_text(desc: &[u8], layout: Layout, rows: &[i64], used: usize, out: &mut [u8]) -> Line
-    requires { ⌜ Formed (now desc) layout ⌝ }
-    requires { ⌜ Sound (description (now desc) layout) (now rows) used ⌝ }
-    requires { ⌜ 0 < used ⌝ }
-    ensures { λ r. ⌜ Lines (textAt (description (now (desc .entry)) layout) (now (rows .entry)) (suc mostRows) 0) (now (out .entry)) (now (out .exit)) r ⌝ }
+pub fn print_text(
+    desc: &[u8],
+    fixed: &[usize; FIXED],
+    rows: &[i64],
+    used: usize,
+    out: &mut [u8],
+) -> Line
+    requires { ⌜ Fixed (now desc) (now fixed) ⌝ }
+    requires { ⌜ Sound (described (now desc) (now fixed)) (now rows) used × (0 < used) ⌝ }
+    ensures { λ r. ⌜ r ≡ lineOf (wholeText (now (desc .entry)) (now (fixed .entry)) (now (rows .entry))) (length (now (out .entry))) ⌝ }
+    ensures { λ _. ⌜ now (out .exit) ≡ lentAfter (wholeText (now (desc .entry)) (now (fixed .entry)) (now (rows .entry))) (now (out .entry)) ⌝ }
 {
     let mut text = [0u8; format::TEXT];
-    let put = print_part(desc, layout, rows, used, 0, &mut text, 0);
+    let put = print_part(desc, fixed, rows, used, 0, &mut text, 0);
     match put {
-        Printed::Full => Line::Long,
+        Printed::Full => Line::TextTooLong,
         Printed::Wrote(end) => {
             let copied = printing::put_bytes(&text[..end], out);
             match copied {

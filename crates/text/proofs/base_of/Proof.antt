@@ -9,25 +9,20 @@ use Rattle.text.proofs.base_of.Reads as reads
 use Rattle.text.proofs.base_of.Lts as lts
 use Rattle.fields.proofs.look_of.Reads as look-of-reads
 
--- src/lib.rt:50:9
 look-of-requires : tie.Need-look-of-requires
 look-of-requires c κs = search needs
 
--- src/lib.rt:52:35
 enum-known-found : tie.Need-enum-known-found
 enum-known-found c = search needs
 
--- src/lib.rt:53:23
 enum-told : tie.Need-enum-told
 enum-told c = search needs
 
--- src/lib.rt:47:1
 returns : tie.Need-returns
 returns c =
     let e = ap baseOf (sym (c .before .before .before .look-of .ensures) ∙ c .before .found .given .1) in
     (sym e, rw e at (base-known (c .before .before .before .before .args .look)))
 
--- src/lib.rt:47:1
 returns-2 : tie.Need-returns-2
 returns-2 c = (sym (ap baseOf (sym (c .before .before .look-of .ensures) ∙ c .enum-told .given .1)), inl refl)
 

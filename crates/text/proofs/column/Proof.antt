@@ -6,19 +6,15 @@ use Rattle.text.proofs.column.Reads as reads
 use Rattle.text.proofs.column.Lts as lts
 use Rattle.printing.proofs.magnitude.Reads as magnitude-reads
 
--- src/lib.rt:29:25
 mul-magnitude : tie.Need-mul-magnitude
 mul-magnitude c = search needs
 
--- src/lib.rt:29:25
 shared-slice-copy-out-magnitude : tie.Need-shared-slice-copy-out-magnitude
 shared-slice-copy-out-magnitude c = search needs
 
--- src/lib.rt:29:5
 magnitude-requires : tie.Need-magnitude-requires
 magnitude-requires c κs = search needs
 
--- src/lib.rt:25:1
 returns : tie.Need-returns
 returns c = rw (toZ-ofZ (record { sfits = c .before .magnitude-arg .given })) at (c .magnitude .ensures)
 

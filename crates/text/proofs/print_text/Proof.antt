@@ -1,3 +1,4 @@
+-- `text::print_text` meets its contract. Assumes nothing.
 use Prim.Native.Nat.{ℕ, suc, _+_, _<_, _≤_}
 use mathlib.Core.List.{List}
 use mathlib.Core.Path.{_≡_, refl, sym, ap, _∙_}
@@ -5,10 +6,9 @@ use native.Mathlib.Omega.{arith}
 use lib.ListN.{length, take, replicate, length-replicate}
 use lib.Seq.{length-take-le}
 use Rattle.format.specs.Numbers.{mostRows}
-use Rattle.format.specs.Description.{description}
-use Rattle.text.specs.Places.{textAt}
-use Rattle.text.specs.Adding.{Added, Adds}
-use Rattle.text.proofs.Whole.{long-line, end-few, line-full, line-written}
+use Rattle.text.specs.Prints.{wholeText}
+use Rattle.text.specs.Append.{Appended, Appends}
+use Rattle.text.proofs.LentText.{long-line, end-few, line-full, line-written}
 use borrow.Author.Needs.{needs}
 use Rattle.text.proofs.print_text.Statement.{statement}
 use Rattle.text.proofs.print_text.Tie as tie
@@ -17,66 +17,61 @@ use Rattle.text.proofs.print_text.Lts as lts
 use Rattle.printing.proofs.put_bytes.Reads as put-bytes-reads
 use Rattle.text.proofs.print_part.Reads as print-part-reads
 
--- src/lib.rt:249:55
 slice-aggregate-print-part : tie.Need-slice-aggregate-print-part
 slice-aggregate-print-part c = search needs
 
--- src/lib.rt:249:9
 print-part-requires : tie.Need-print-part-requires
-print-part-requires c κs = search needs
+print-part-requires c κs =
+    let start = c .before .before .before in
+    record { fixed = start .pre .0; sound = start .pre .1 .0; row = start .pre .1 .1; place = omega arith }
 
--- src/lib.rt:251:26
 enum-told : tie.Need-enum-told
 enum-told c = search needs
 
--- src/lib.rt:252:24
 enum-known-put : tie.Need-enum-known-put
 enum-known-put c = search needs
 
--- src/lib.rt:253:46
--- the text in the buffer, where it was written
-added : (c : tie.After-put)
-    → Added 0 (textAt (description (c .before .before .before .before .before .before .before .args .desc .now) (c .before .before .before .before .before .before .before .args .layout)) (c .before .before .before .before .before .before .before .args .rows .now) (suc mostRows) 0) (replicate 256 0) (c .before .before .before .print-part .last .1 .1 .1 .1 .1 .0) (c .put .given .0 .0)
-added c = rw (c .put .given .1) at (c .before .before .before .print-part .ensures (suc mostRows) (omega arith) .is)
+-- the text stands in the buffer, where it was written
+in-buffer : (c : tie.After-put)
+    → Appended 0 (wholeText (c .before .before .before .before .before .before .before .args .desc .now) (c .before .before .before .before .before .before .before .args .fixed .now) (c .before .before .before .before .before .before .before .args .rows .now)) (replicate 256 0) (c .before .before .before .print-part .last .1 .1 .1 .1 .1 .0) (c .put .given .0 .0)
+in-buffer c = rw (c .put .given .1) at (c .before .before .before .print-part .ensures (suc mostRows) (omega arith) .is)
 
 array-share-prefix-text : tie.Need-array-share-prefix-text
-array-share-prefix-text c = rw (c .before .before .before .before .print-part .kept .1 .1 .1 .1 .1 .0) (end-few _ _ _ (c .before .before .before .before .before .before .before .before .args .out .now) (length-replicate {A = ℕ} 256 0) _ (added (c .before)))
+array-share-prefix-text c =
+    rw (c .before .before .before .before .print-part .kept .1 .1 .1 .1 .1 .0)
+    (end-few _ _ _ (c .before .before .before .before .before .before .before .before .args .out .now) (length-replicate {A = ℕ} 256 0) _ (in-buffer (c .before)))
 
--- src/lib.rt:253:46
 slice-aggregate-put-bytes : tie.Need-slice-aggregate-put-bytes
-slice-aggregate-put-bytes c = sym (length-take-le _ _ (rw (c .before .before .before .before .before .print-part .kept .1 .1 .1 .1 .1 .0) (end-few _ _ _ (c .before .before .before .before .before .before .before .before .before .args .out .now) (length-replicate {A = ℕ} 256 0) _ (added (c .before .before)))))
+slice-aggregate-put-bytes c =
+    sym
+    (length-take-le _ _
+    (rw (c .before .before .before .before .before .print-part .kept .1 .1 .1 .1 .1 .0) (end-few _ _ _ (c .before .before .before .before .before .before .before .before .before .args .out .now) (length-replicate {A = ℕ} 256 0) _ (in-buffer (c .before .before)))))
 
--- src/lib.rt:253:17
 put-bytes-requires : tie.Need-put-bytes-requires
 put-bytes-requires c κs = search needs
 
--- src/lib.rt:255:34
 enum-told-2 : tie.Need-enum-told-2
 enum-told-2 c = search needs
 
--- src/lib.rt:256:32
 enum-known-copied : tie.Need-enum-known-copied
 enum-known-copied c = search needs
 
--- src/lib.rt:242:1
 returns : tie.Need-returns
-returns c = long-line _ (replicate 256 0) _ _ (length-replicate {A = ℕ} 256 0) (rw (c .enum-told .given .1) at (c .before .before .before .print-part .ensures (suc mostRows) (omega arith)))
+returns c =
+    long-line _ (replicate 256 0) _ _ (length-replicate {A = ℕ} 256 0)
+    (rw (c .enum-told .given .1) at (c .before .before .before .print-part .ensures (suc mostRows) (omega arith)))
 
--- src/lib.rt:242:1
 same-length : tie.Need-same-length
 same-length c = search needs
 
--- src/lib.rt:242:1
 returns-2 : tie.Need-returns-2
-returns-2 c = line-full _ _ _ _ (length-replicate {A = ℕ} 256 0) _ (added (c .before .before .before .before .before .before .before .before)) _ _ (c .before .before .before .before .put-bytes .ensures) (c .enum-told2 .given .1)
+returns-2 c = line-full _ _ _ _ (length-replicate {A = ℕ} 256 0) _ (in-buffer (c .before .before .before .before .before .before .before .before)) _ _ (c .before .before .before .before .put-bytes .ensures) (c .enum-told2 .given .1)
 
--- src/lib.rt:242:1
 same-length-2 : tie.Need-same-length-2
 same-length-2 c = search needs
 
--- src/lib.rt:242:1
 returns-3 : tie.Need-returns-3
-returns-3 c = line-written _ _ _ _ (length-replicate {A = ℕ} 256 0) _ (added (c .before .before .before .before .before .before .before .before .before)) _ _ (c .before .before .before .before .before .put-bytes .ensures) _ (c .before .copied .given .1)
+returns-3 c = line-written _ _ _ _ (length-replicate {A = ℕ} 256 0) _ (in-buffer (c .before .before .before .before .before .before .before .before .before)) _ _ (c .before .before .before .before .before .put-bytes .ensures) _ (c .before .copied .given .1)
 
 pub print-text-spec : {M : Type 1} → statement M
 print-text-spec =

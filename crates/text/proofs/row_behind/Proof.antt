@@ -2,7 +2,7 @@ use Prim.Native.Nat.{_+_, _-_}
 use mathlib.Core.Path.{_≡_, refl, sym, ap, _∙_}
 use native.Mathlib.Omega.{arith}
 use Rattle.text.specs.Places.{skip, sizeAt}
-use Rattle.text.proofs.Skipping.{skip-on, skip-one, skip-none}
+use Rattle.text.proofs.RowSteps.{skip-on, skip-one, skip-none}
 use Rattle.text.proofs.row_behind.Statement.{statement}
 use Rattle.text.proofs.row_behind.Tie as tie
 use Rattle.text.proofs.row_behind.Reads as reads
@@ -15,23 +15,18 @@ Inv-loop rows first parts row₀ left₀ row left = skip rows row left ≡ skip 
 abbrev μ-loop : tie.MeasureT-loop
 μ-loop rows first parts row₀ left₀ row left = left
 
--- src/lib.rt:39:5
 loop-holds : tie.Need-loop-holds Inv-loop μ-loop
 loop-holds c = refl
 
--- src/lib.rt:40:29
 mul-column : tie.Need-mul-column Inv-loop μ-loop
 mul-column c = omega (arith, skip-on (c .before .before .args .rows .now) (c .before .loop .row) (c .before .loop .left), c .before .loop .inv)
 
--- src/lib.rt:40:29
 add-column : tie.Need-add-column Inv-loop μ-loop
 add-column c = omega (arith, skip-on (c .before .before .args .rows .now) (c .before .loop .row) (c .before .loop .left), c .before .loop .inv)
 
--- src/lib.rt:40:16
 column-requires : tie.Need-column-requires Inv-loop μ-loop
 column-requires c κs = omega (arith, skip-on (c .before .before .args .rows .now) (c .before .loop .row) (c .before .loop .left), c .before .loop .inv)
 
--- src/lib.rt:40:9
 add-row : tie.Need-add-row Inv-loop μ-loop
 unfolding sizeAt
 add-row c =
@@ -40,22 +35,18 @@ add-row c =
     let e : c .column .result ≡ sizeAt rows row = c .column .ensures in
     omega (arith, e, skip-on rows (row + sizeAt rows row) (c .before .before .loop .left - 1), skip-one rows row (c .before .before .loop .left) (c .before .loop-test .taken), c .before .before .loop .inv)
 
--- src/lib.rt:41:9
 sub-left : tie.Need-sub-left Inv-loop μ-loop
 sub-left c = omega arith
 
--- src/lib.rt:39:5
 loop-less : tie.Need-loop-less Inv-loop μ-loop
 loop-less c = omega arith
 
--- src/lib.rt:39:5
 loop-again : tie.Need-loop-again Inv-loop μ-loop
 unfolding sizeAt
 loop-again c =
     rw (c .column .ensures)
     (sym (skip-one (c .before .before .before .args .rows .now) (c .before .before .loop .row) (c .before .before .loop .left) (c .before .loop-test .taken)) ∙ c .before .before .loop .inv)
 
--- src/lib.rt:33:1
 returns : tie.Need-returns Inv-loop μ-loop
 returns c = sym (skip-none (c .before .before .args .rows .now) (c .before .loop .row) (c .before .loop .left) (c .loop-test .left)) ∙ c .before .loop .inv
 

@@ -7,15 +7,15 @@ use Rattle.printing.specs.declared.Printed.{Printed}
 use Rattle.printing.specs.declared.Printed.the-variants.{Wrote, Full}
 
 -- the bytes w stand from place `at` up to the end
-pub record Added (at : ℕ) (w before after : List ℕ) (end : ℕ) : Type 0 where
+pub record Appended (at : ℕ) (w before after : List ℕ) (end : ℕ) : Type 0 where
   pub fits : end ≤ length before
   pub ends : end ≡ at + length w
   pub holds : take end after ≡ take at before ++ w
 
-abbrev pub Adding : ℕ → List ℕ → List ℕ → List ℕ → Printed → Type 0
-Adding at w before after (Wrote end) = Added at w before after end
-Adding at w before after Full = length before < at + length w
+abbrev pub AppendedBy : ℕ → List ℕ → List ℕ → List ℕ → Printed → Type 0
+AppendedBy at w before after (Wrote end) = Appended at w before after end
+AppendedBy at w before after Full = length before < at + length w
 
 -- the answer is the end of the bytes written, or that they have no room
-pub record Adds (at : ℕ) (w before after : List ℕ) (r : Printed) : Type 0 where
-  pub is : Adding at w before after r
+pub record Appends (at : ℕ) (w before after : List ℕ) (r : Printed) : Type 0 where
+  pub is : AppendedBy at w before after r

@@ -12,17 +12,21 @@ use Rattle.printing.specs.Writing.{Puts, over}
 use Rattle.printing.specs.declared.Printed.{Printed}
 use Rattle.printing.specs.declared.Printed.the-variants.{Wrote, Full}
 use Rattle.printing.proofs.Writing.{puts-wrote, puts-full}
-use Rattle.text.specs.Adding.{Added, Adds}
-use Rattle.text.specs.Lines.{Lines}
-use Rattle.text.specs.declared.Line.the-variants.{Written, Long, NoRoom}
+use Rattle.text.specs.Append.{Appended, Appends}
+use Rattle.text.specs.Lines.{lineOf, lentAfter}
+use Rattle.text.specs.declared.Line.{Line}
+use Rattle.text.specs.declared.Line.the-variants.{Written, TextTooLong, NoRoom}
+
+abbrev Lent : (w before after : List ℕ) → Line → Type 0
+Lent w before after r = (r ≡ lineOf w (length before)) × (after ≡ lentAfter w before)
 
 module _ (w empty text before : List ℕ) (all : length empty ≡ longestText) where
-  pub long-line : Adds 0 w empty text Full → Lines w before before Long
+  pub long-line : Appends 0 w empty text Full → Lent w before before TextTooLong
   long-line h =
       let f = lt-leb (length w) longestText (omega (arith, h .is)) in
-      record { answer = rw f; holds = rw f }
+      (rw f, rw f)
 
-  module _ (end : ℕ) (h : Added 0 w empty text end) where
+  module _ (end : ℕ) (h : Appended 0 w empty text end) where
     pub end-few : end ≤ longestText
     end-few = omega (arith, h .fits)
 
@@ -33,14 +37,14 @@ module _ (w empty text before : List ℕ) (all : length empty ≡ longestText) w
     fits = le-leb (length w) longestText (omega (arith, h .fits, h .ends))
 
     module _ (after : List ℕ) (r : Printed) (puts : Puts (take end text) before after r) where
-      pub line-full : r ≡ Full → Lines w before after NoRoom
+      pub line-full : r ≡ Full → Lent w before after NoRoom
       line-full e =
           let g = puts-full (rw made at puts) e in
           let f = lt-leb (length w) (length before) (g .0) in
-          record { answer = rw (fits, f); holds = rw (fits, f) (g .1) }
+          (rw (fits, f), rw (fits, f) (g .1))
 
-      pub line-written : (n : ℕ) → r ≡ Wrote n → Lines w before after (Written n)
+      pub line-written : (n : ℕ) → r ≡ Wrote n → Lent w before after (Written n)
       line-written n e =
           let g = puts-wrote (rw made at puts) e in
           let f = le-leb (length w) (length before) (g .fits) in
-          record { answer = rw (fits, f) (ap Written (g .count)); holds = rw (fits, f) (g .is) }
+          (rw (fits, f) (ap Written (g .count)), rw (fits, f) (g .is))
