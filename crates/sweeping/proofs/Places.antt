@@ -1,98 +1,107 @@
 -- One place of a sweep: what its decoding says of the row.
-use Prim.Native.Nat.{ℕ, _+_, _-_, _*_, _≤_, _<_}
-use mathlib.Core.List.{List, [], _∷_, _++_}
+use Prim.Native.Nat.{ℕ, _+_, _≤_, _<_}
+use mathlib.Core.Bool.{Bool, true, false, cond}
+use mathlib.Core.List.{List, _++_}
 use mathlib.Core.Path.{_≡_, refl, sym, ap, _∙_}
 use native.Mathlib.Omega.{arith}
-use lib.IntN.{ℤ, pos, natAbs}
-use lib.ListN.{length, getD, take, drop, length-drop}
-use lib.Seq.{getD-take}
-use Rattle.format.specs.Numbers.{sectionItself}
-use Rattle.format.specs.Description.{Description}
+use lib.ListN.{length, drop, length-drop}
+use lib.Seq.{drop-append-le}
+use Rattle.format.specs.Check.{Formed}
+use Rattle.format.specs.Description.{Description, description}
+use Rattle.format.specs.declared.Layout.{Layout}
 use Rattle.format.proofs.Formation.{Obeyed}
-use Rattle.instruction.specs.Tree.{Node, Nodes, built, numbered, named, rowsOf, rowsOfAll}
-use Rattle.instruction.specs.Walk.{Result, done, refused, instructionOf}
-use Rattle.instruction.specs.Facts.{Shaped}
-use Rattle.instruction.specs.declared.Refusal.{Refusal}
-use Rattle.instruction.specs.declared.Refusal.the-variants.{Short, NoMatch, Ambiguous, Hole, Far, ManyRows, Empty}
-use Rattle.instruction.proofs.Lying.{lies}
-use Rattle.instruction.proofs.Shapes.{shaped}
-use Rattle.instruction.proofs.Choices.{root-first}
-use Rattle.walking.specs.Scratch.{scratchNumbers, scratchOf}
-use Rattle.walking.specs.Walks.{WalksTo}
+use Rattle.format.proofs.Lists.{constructors-length}
+use Rattle.decoding_spec.specs.Tree.{Node, built, numbered, named}
+use Rattle.decoding_spec.specs.Walk.{Result, done, refused, instructionOf}
+use Rattle.decoding_spec.specs.Refusals.{refusalNumber, isShort}
+use Rattle.decoding_spec.specs.declared.State.{State}
+use Rattle.decoding_spec.specs.declared.Refusal.{Refusal}
+use Rattle.decoding_theorems.specs.Facts.{Shaped}
+use Rattle.decoding_theorems.specs.Relation.{TableWalk, taken}
+use Rattle.decoding_theorems.proofs.InBounds.{in-bounds}
+use Rattle.decoding_theorems.proofs.Relation.{relation}
+use Rattle.decoding_theorems.proofs.Shapes.{shaped}
+use Rattle.decoding_theorems.proofs.Stays.{stays}
+use Rattle.setting.specs.Fixed.{settingIn}
+use Rattle.walking.specs.Walks.{answerOf, resultAt}
 use Rattle.walking.specs.declared.Walked.{Walked}
 use Rattle.walking.specs.declared.Walked.the-variants as walked
-use Rattle.walking.proofs.Steps.{WasDone, was-refused, was-done}
-use Rattle.sweeping.specs.Sweep.{rootNumber, gap, stepBy, stepAt}
+use Rattle.sweeping.specs.Sweep.{rootNumber, noRoot, gapLength, gap, stepBy, stepAt}
 use Rattle.sweeping.specs.declared.Step.the-variants.{Row, Stop}
 
--- the first row's number is the root's constructor
-first-number : (k l : ℕ) (f : Nodes) (n : Node) (u : ℕ) (scratch : List ℤ) → n ≡ built k 0 l f → u ≡ length (rowsOf n)
-    → take (scratchNumbers * u) scratch ≡ scratchOf (rowsOf n) → natAbs (getD scratch 1 (pos 0)) ≡ rootNumber n
-unfolding rowsOf scratchOf
-first-number k l f n u scratch e g h =
-    let count : u ≡ length (rowsOf (built k 0 l f)) = rw e at g in
-    let holds : take (scratchNumbers * u) scratch ≡ scratchOf (rowsOf (built k 0 l f)) = rw e at h in
-    rw e
-    (ap natAbs (sym (getD-take (scratchNumbers * u) scratch 1 (pos 0) (omega arith)) ∙ ap (λ (x : List ℤ). getD x 1 (pos 0)) holds))
+-- the constructor closed last is the root's
+walk-taken : {d : Description} {s : List ℕ} {t at : ℕ} {st : State} {n : Node} {l : ℕ} {st′ : State} → TableWalk d s t at st n l st′
+    → st′ .taken ≡ rootNumber n
+walk-taken (taken c f) = ap (λ (st : State). st .taken) (c .state)
 
-module _ (d : Description) (o : Obeyed d) (c : ℕ) (s : List ℕ) (at : ℕ) (part : List ℕ) (is : part ≡ drop at s) (w : Walked) (before scratch : List ℤ)
-    (walks : WalksTo rowsOf (instructionOf d c part) w 0 before scratch) where
-  pub gives-gap : (r : Refusal) → w ≡ walked.Refused r → gap r ≡ stepAt d c s at
-  unfolding stepAt
-  gives-gap r e = sym (ap stepBy (ap (instructionOf d c) (sym is) ∙ was-refused rowsOf 0 before scratch (instructionOf d c part) w r walks e))
+pub root-taken : (d : Description) (c : ℕ) (s : List ℕ) (n : Node) (l : ℕ) (st : State) → instructionOf d c s ≡ done n l st
+    → st .taken ≡ rootNumber n
+root-taken d c s n l st e = walk-taken (relation d c s n l st e .root)
 
-  module _ (u l : ℕ) (e : w ≡ walked.Done u l) where
-    left : WasDone rowsOf (instructionOf d c part) 0 before scratch u l
-    left = was-done rowsOf 0 before scratch (instructionOf d c part) w u l walks e
+-- a place's step, from the walk's answer there
+module _ (b a s : List ℕ) (at c : ℕ) (w : Walked) (is : w ≡ answerOf (resultAt b a s at c)) where
+  pub gap-step : (r : Refusal) → w ≡ walked.Refused r → gap r ≡ stepBy (resultAt b a s at c)
+  gap-step r e = go (resultAt b a s at c) (sym is ∙ e)
+    where
+      go : (x : Result Node) → answerOf x ≡ walked.Refused r → gap r ≡ stepBy x
+      go (done n l st) q = let z : _≡_ {A = ℕ} 0 1 = cc in absurd (omega arith)
+      go (refused r′) q = let z : r ≡ r′ = cc in ap gap z
 
-    root-is : natAbs (getD scratch 1 (pos 0)) ≡ rootNumber (left .found)
-    root-is =
-        let r = root-first d o c part (left .found) l (left .is) in
-        first-number (r .root) l (r .operands) (left .found) u scratch (r .is) (omega (arith, left .count)) (left .holds)
-
-    pub gives-row : Row l 0 (natAbs (getD scratch 1 (pos 0))) ≡ stepAt d c s at
-    unfolding stepAt
-    gives-row = rw root-is (sym (ap stepBy (ap (instructionOf d c) (sym is) ∙ left .is)))
+  pub row-step : (st : State) (l : ℕ) → w ≡ walked.Done st l → Row l 0 (st .taken) ≡ stepBy (resultAt b a s at c)
+  unfolding resultAt
+  row-step st l e = go (resultAt b a s at c) refl (sym is ∙ e)
+    where
+      go : (x : Result Node) → instructionOf (settingIn b a .description) c (drop at s) ≡ x → answerOf x ≡ walked.Done st l
+          → Row l 0 (st .taken) ≡ stepBy x
+      go (done n m st′) p q =
+          let x : l ≡ m = cc in
+          let y : st ≡ st′ = cc in
+          let z : st .taken ≡ rootNumber n = ap (λ (u : State). u .taken) y ∙ root-taken _ c (drop at s) n m st′ p in
+          cc
+      go (refused r) p q = let z : _≡_ {A = ℕ} 0 1 = cc in absurd (omega arith)
 
 -- a row is at least a byte long and ends in the code, and its constructor is a record's number or 65,535
 pub record Fits (s : List ℕ) (at l k : ℕ) : Type 0 where
   pub some : 1 ≤ l
   pub here : at + l ≤ length s
-  pub small : k ≤ sectionItself
+  pub small : k ≤ noRoot
 
-root-small : (d : Description) (n : Node) → length (d .constructors) ≤ sectionItself → Shaped d n → rootNumber n ≤ sectionItself
+pub few-records : (b : List ℕ) (l : Layout) → Formed b l → length (description b l .constructors) ≤ noRoot
+few-records b l f = rw constructors-length (omega (arith, f .room .few))
+
+root-small : (d : Description) (n : Node) → length (d .constructors) ≤ noRoot → Shaped d n → rootNumber n ≤ noRoot
 root-small d (built k s l f) h g = omega (arith, g .0)
 root-small d (numbered i s v) h g = omega arith
 root-small d (named i s n) h g = omega arith
 
-pub step-fits : (d : Description) → Obeyed d → length (d .constructors) ≤ sectionItself → (c : ℕ) (s : List ℕ) (at : ℕ) → at < length s
-    → (l a k : ℕ) → stepAt d c s at ≡ Row l a k → Fits s at l k
-unfolding stepAt
-step-fits d o few c s at h l a k e = go (instructionOf d c (drop at s)) refl e
-  where
-    one : (a′ : ℕ) → Row 1 a′ sectionItself ≡ Row l a k → Fits s at l k
-    one a′ q =
-        let x : 1 ≡ l = cc in
-        let y : sectionItself ≡ k = cc in
-        record { some = omega arith; here = omega arith; small = omega arith }
+module _ (d : Description) (o : Obeyed d) (c : ℕ) (s : List ℕ) (at : ℕ) where
+  pub step-fits : length (d .constructors) ≤ noRoot → at < length s → (l a k : ℕ) → stepAt d c s at ≡ Row l a k → Fits s at l k
+  unfolding stepAt
+  step-fits few h l a k e = go (instructionOf d c (drop at s)) refl e
+    where
+      refusal : (short : Bool) (n : ℕ) → cond short Stop (Row gapLength n noRoot) ≡ Row l a k → Fits s at l k
+      refusal true n q = let z : _≡_ {A = ℕ} 0 1 = cc in absurd (omega arith)
+      refusal false n q =
+          let x : gapLength ≡ l = cc in
+          let y : noRoot ≡ k = cc in
+          record { some = omega arith; here = omega arith; small = omega arith }
 
-    refusal : (r : Refusal) → gap r ≡ Row l a k → Fits s at l k
-    refusal (Short p) q = let z : _≡_ {A = ℕ} 0 1 = cc in absurd (omega arith)
-    refusal (NoMatch p t) q = one 3 q
-    refusal (Ambiguous p t) q = one 4 q
-    refusal (Hole p) q = one 5 q
-    refusal (Far p) q = one 6 q
-    refusal ManyRows q = one 7 q
-    refusal Empty q = one 8 q
+      go : (r : Result Node) → instructionOf d c (drop at s) ≡ r → stepBy r ≡ Row l a k → Fits s at l k
+      go (done n m st) p q =
+          let x : m ≡ l = cc in
+          let y : rootNumber n ≡ k = cc in
+          let f = in-bounds d c (drop at s) n m st p in
+          record {
+            some = omega (arith, f .some);
+            here = omega (arith, f .here, length-drop at s);
+            small = omega (arith, root-small d n few (shaped d o c (drop at s) n m st p));
+          }
+      go (refused r) p q = refusal (isShort r) (refusalNumber r) q
 
-    go : (r : Result Node) → instructionOf d c (drop at s) ≡ r → stepBy r ≡ Row l a k → Fits s at l k
-    go (done n m) p q =
-        let x : m ≡ l = cc in
-        let y : rootNumber n ≡ k = cc in
-        let f = lies d o c (drop at s) n m p in
-        record {
-          some = omega (arith, f .some);
-          here = omega (arith, f .here, length-drop at s);
-          small = omega (arith, root-small d n few (shaped d o c (drop at s) n m p));
-        }
-    go (refused r) p q = refusal r q
+  -- a place that has a row has the same one where more code follows
+  pub step-stays : (m : List ℕ) → at ≤ length s → (l a k : ℕ) → stepAt d c s at ≡ Row l a k → stepAt d c (s ++ m) at ≡ Row l a k
+  unfolding stepAt
+  step-stays m h l a k e =
+      ap (λ (x : List ℕ). stepBy (instructionOf d c x)) (drop-append-le at s m h)
+      ∙ ap stepBy (stays d o c (drop at s) m (λ p q. let y : Stop ≡ Row l a k = sym (ap stepBy q) ∙ e in let z : _≡_ {A = ℕ} 0 1 = cc in omega arith))
+      ∙ e

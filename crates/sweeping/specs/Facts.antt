@@ -1,10 +1,11 @@
 -- What the theorems say of a sweep's rows.
-use Prim.Native.Nat.{ℕ, _+_, _≤_}
+use Prim.Native.Nat.{ℕ, _+_, _-_, _≤_}
 use mathlib.Core.List.{List, [], _∷_}
 use mathlib.Core.Path.{_≡_}
-use lib.ListN.{length}
+use lib.ListN.{length, take}
 use Rattle.format.specs.Description.{Description}
-use Rattle.sweeping.specs.Sweep.{SweepRow, Sweep, stepAt}
+use Rattle.sweeping.specs.Sweep.{SweepRow, Sweep, joined, stepAt, sweepFrom}
+use Rattle.sweeping.specs.declared.End.the-variants as end
 use Rattle.sweeping.specs.declared.Step.the-variants.{Row}
 
 -- the rows go from one byte to the next without gap or overlap, none is empty, and "each row is that place's decoding"
@@ -17,3 +18,10 @@ Tiles d c s at (r ∷ rs) next =
 pub record Tiled (d : Description) (c : ℕ) (s : List ℕ) (at : ℕ) (w : Sweep) : Type 0 where
   pub tiles : Tiles d c s at (w .rows) (w .next)
   pub inside : w .next ≤ length s
+
+-- w is a sweep over some code, and w′ over longer code, s, with room for as many rows: w′ has the rows of w, and goes on behind them with
+-- the room that they leave; so it begins with the rows of w, however w ended, and is no other where w ended "full"
+pub record Extends (d : Description) (c : ℕ) (s : List ℕ) (room : ℕ) (w w′ : Sweep) : Type 0 where
+  pub whole : w′ ≡ joined (w .rows) (sweepFrom d c s (room - length (w .rows)) (w .next))
+  pub begins : take (length (w .rows)) (w′ .rows) ≡ w .rows
+  pub full : w .why ≡ end.Full → w′ ≡ w

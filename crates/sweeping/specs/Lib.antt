@@ -1,4 +1,4 @@
 -- Sweeping a code buffer (document 01, "Sweep").
 pub mod Sweep
-pub mod Sweeping
+pub mod Buffer
 pub mod Facts

@@ -1,20 +1,19 @@
 // Sweeping a code buffer: a row for each instruction and each gap.
-use format::Checked;
+use acceptance::Acceptance;
+use acceptance::Rejection;
+use decoding_spec::Refusal;
 use format::Layout;
-use instruction::Refusal;
+use setting::FIXED;
 use walking::Walked;
-ghost use mathlib.Core.List.{[], _∷_};
 ghost use mathlib.Core.Path.{_≡_};
 ghost use Prim.Native.Nat.{_+_, _*_, _<_, _≤_, _^_};
-ghost use lib.IntN.{pos};
 ghost use lib.ListN.{length};
 ghost use Rattle.format.specs.Numbers.{sweepNumbers};
 ghost use Rattle.format.specs.Check.{Formed};
-ghost use Rattle.format.specs.Description.{description};
-ghost use Rattle.tables.specs.Starts.{Starts};
-ghost use Rattle.walking.specs.Scratch.{scratchLength};
-ghost use Rattle.sweeping.specs.Sweep.{gap, stepAt, sweepIn, sweepOf, sweepAfter};
-ghost use Rattle.sweeping.specs.Sweeping.{Sweeps, putRow};
+ghost use Rattle.setting.specs.Fixed.{Fixed};
+ghost use Rattle.walking.specs.Walks.{resultAt, toldLength};
+ghost use Rattle.sweeping.specs.Sweep.{gap, stepBy, rowAt, sweepOf, bufferAfter};
+ghost use Rattle.sweeping.specs.Buffer.{OutcomeIn, bufferWithRow};
 
 // Why a sweep ended: the code is used up, no whole row is left, or the code is short.
 pub enum End {
@@ -25,7 +24,7 @@ pub enum End {
 
 pub enum Swept {
     Ended { why: End, rows: usize, next: usize },
-    Malformed { section: usize, record: usize },
+    Rejected(Rejection),
 }
 
 // What a place comes to: a row's length, answer and root constructor, or that the code is short there.
@@ -40,67 +39,38 @@ pub enum Step {
 
 const NUMBERS: usize = format::SWEEP_NUMBERS;
 
-// A gap of one byte, with the refusal's number.
+// The constructor of a gap, and its length.
+const NO_ROOT: usize = 65535;
+
+const GAP: usize = 1;
+
+// A gap, with the refusal's number.
 fn gap_of(refusal: Refusal) -> Step
     ensures { λ r. ⌜ r ≡ gap refusal ⌝ }
 {
-    match refusal {
-        Refusal::Short(_) => Step::Stop,
-        Refusal::NoMatch { place: _, table: _ } => Step::Row {
-            length: 1,
-            answer: 3,
-            constructor: format::SECTION,
-        },
-        Refusal::Ambiguous { place: _, table: _ } => Step::Row {
-            length: 1,
-            answer: 4,
-            constructor: format::SECTION,
-        },
-        Refusal::Hole(_) => Step::Row {
-            length: 1,
-            answer: 5,
-            constructor: format::SECTION,
-        },
-        Refusal::Far(_) => Step::Row {
-            length: 1,
-            answer: 6,
-            constructor: format::SECTION,
-        },
-        Refusal::ManyRows => Step::Row {
-            length: 1,
-            answer: 7,
-            constructor: format::SECTION,
-        },
-        Refusal::Empty => Step::Row {
-            length: 1,
-            answer: 8,
-            constructor: format::SECTION,
-        },
+    if decoding_spec::is_short(refusal) {
+        return Step::Stop;
+    }
+    Step::Row {
+        length: GAP,
+        answer: decoding_spec::refusal_number(refusal),
+        constructor: NO_ROOT,
     }
 }
 
 // The decoding at a place, from there to the end of the code.
-fn step_at(
-    desc: &[u8],
-    layout: Layout,
-    starts: &[usize; tables::STARTS],
-    context: u32,
-    code: &[u8],
-    at: usize,
-    scratch: &mut [i64],
-) -> Step
-    requires { ⌜ Formed (now desc) layout ⌝ }
-    requires { ⌜ Starts (description (now desc) layout) (now starts) ⌝ }
-    requires { ⌜ (at ≤ length (now code)) × (length (now scratch) ≡ scratchLength) ⌝ }
-    ensures { λ r. ⌜ r ≡ stepAt (description (now (desc .entry)) layout) context (now (code .entry)) at ⌝ }
+fn step_at(desc: &[u8], fixed: &mut [usize; FIXED], context: u32, code: &[u8], at: usize) -> Step
+    requires { ⌜ Fixed (now desc) (now fixed) × (at ≤ length (now code)) ⌝ }
+    ensures { λ r. ⌜ r ≡ stepBy (resultAt (now (desc .entry)) (now (fixed .entry)) (now (code .entry)) at context) ⌝ }
+    ensures { λ _. ⌜ now (fixed .exit) ≡ toldLength (now (fixed .entry)) (now (code .entry)) at ⌝ }
 {
-    let walked = walking::walk_root(desc, layout, starts, context, &code[at..], scratch);
+    let walked = walking::step_at(desc, fixed, context, code, at);
     match walked {
         Walked::Refused(refusal) => gap_of(refusal),
-        Walked::Done { used: _, length } => Step::Row {
+        Walked::Done { state, length } => Step::Row {
             length,
             answer: 0,
-            constructor: printing::magnitude(scratch[1]) as usize,
+            constructor: state.taken,
         },
     }
 }
@@ -109,7 +79,7 @@ fn step_at(
 fn put_row(rows: &mut [i64], i: usize, start: usize, size: usize, answer: u8, constructor: usize)
     requires { ⌜ sweepNumbers * (i + 1) ≤ length (now rows) ⌝ }
     requires { ⌜ (start < 2 ^ 63) × (size < 2 ^ 63) × (constructor < 2 ^ 63) ⌝ }
-    ensures { λ _. ⌜ now (rows .exit) ≡ putRow i (pos start ∷ pos size ∷ pos answer ∷ pos constructor ∷ []) (now (rows .entry)) ⌝ }
+    ensures { λ _. ⌜ now (rows .exit) ≡ bufferWithRow i (rowAt start size answer constructor) (now (rows .entry)) ⌝ }
 {
     let at = NUMBERS * i;
     rows[at] = start as i64;
@@ -120,10 +90,9 @@ fn put_row(rows: &mut [i64], i: usize, start: usize, size: usize, answer: u8, co
 
 fn sweep_in(desc: &[u8], layout: Layout, context: u32, code: &[u8], rows: &mut [i64]) -> Swept
     requires { ⌜ Formed (now desc) layout ⌝ }
-    ensures { λ r. ⌜ Sweeps (sweepIn (description (now (desc .entry)) layout) context (now (code .entry)) (length (now (rows .entry)))) r (now (rows .entry)) (now (rows .exit)) ⌝ }
+    ensures { λ r. ⌜ OutcomeIn (now (desc .entry)) layout context (now (code .entry)) (now (rows .entry)) r (now (rows .exit)) ⌝ }
 {
-    let starts = tables::starts(desc, layout);
-    let mut scratch = [0i64; walking::SCRATCH];
+    let mut fixed = setting::fill(desc, layout, true);
     let room = rows.len() / NUMBERS;
     let mut at = 0;
     let mut n = 0;
@@ -135,7 +104,7 @@ fn sweep_in(desc: &[u8], layout: Layout, context: u32, code: &[u8], rows: &mut [
                 next: at,
             };
         }
-        let found = step_at(desc, layout, &starts, context, code, at, &mut scratch);
+        let found = step_at(desc, &mut fixed, context, code, at);
         match found {
             Step::Stop => {
                 return Swept::Ended {
@@ -165,11 +134,11 @@ fn sweep_in(desc: &[u8], layout: Layout, context: u32, code: &[u8], rows: &mut [
 // Any bytes as the description and as the code, any context, any room for rows.
 pub fn sweep(desc: &[u8], context: u32, code: &[u8], rows: &mut [i64]) -> Swept
     ensures { λ r. ⌜ r ≡ sweepOf (now (desc .entry)) context (now (code .entry)) (length (now (rows .entry))) ⌝ }
-    ensures { λ _. ⌜ now (rows .exit) ≡ sweepAfter (now (desc .entry)) context (now (code .entry)) (now (rows .entry)) ⌝ }
+    ensures { λ _. ⌜ now (rows .exit) ≡ bufferAfter (now (desc .entry)) context (now (code .entry)) (now (rows .entry)) ⌝ }
 {
-    let checked = description::check(desc);
-    match checked {
-        Checked::Good(layout) => sweep_in(desc, layout, context, code, rows),
-        Checked::Fault { section, record } => Swept::Malformed { section, record },
+    let acceptance = acceptance::accept(desc);
+    match acceptance {
+        Acceptance::Accepted(layout) => sweep_in(desc, layout, context, code, rows),
+        Acceptance::Rejected(rejection) => Swept::Rejected(rejection),
     }
 }

@@ -1,7 +1,8 @@
+-- `sweeping::put_row` meets its contract. Assumes nothing.
 use Prim.Native.Nat.{_*_}
 use mathlib.Core.Path.{refl}
 use native.Mathlib.Omega.{arith}
-use lib.ListN.{length, length-set}
+use lib.ListN.{length-set}
 use mir.Facts.{toZ-pos}
 use mir.Syntax.{w64}
 use Rattle.sweeping.proofs.Turns.{put-four}
@@ -11,79 +12,61 @@ use Rattle.sweeping.proofs.put_row.Tie as tie
 use Rattle.sweeping.proofs.put_row.Reads as reads
 use Rattle.sweeping.proofs.put_row.Lts as lts
 
--- src/lib.rt:114:14
 mul-at : tie.Need-mul-at
 mul-at c = search needs
 
--- src/lib.rt:115:16
 cast-rows : tie.Need-cast-rows
 cast-rows c = search needs
 
--- src/lib.rt:115:5
 mul-rows : tie.Need-mul-rows
 mul-rows c = search needs
 
--- src/lib.rt:115:5
 slice-set-from-rows : tie.Need-slice-set-from-rows
 slice-set-from-rows c = search needs
 
--- src/lib.rt:116:20
 cast-rows-2 : tie.Need-cast-rows-2
 cast-rows-2 c = search needs
 
--- src/lib.rt:116:10
 add-rows : tie.Need-add-rows
 add-rows c = search needs
 
--- src/lib.rt:116:5
 mul-rows-2 : tie.Need-mul-rows-2
 mul-rows-2 c = search needs
 
--- src/lib.rt:116:5
 slice-set-from-rows-2 : tie.Need-slice-set-from-rows-2
 slice-set-from-rows-2 c = simp length-set (omega arith)
 
--- src/lib.rt:117:20
 cast-rows-3 : tie.Need-cast-rows-3
 cast-rows-3 c = search needs
 
--- src/lib.rt:117:10
 add-rows-2 : tie.Need-add-rows-2
 add-rows-2 c = search needs
 
--- src/lib.rt:117:5
 mul-rows-3 : tie.Need-mul-rows-3
 mul-rows-3 c = search needs
 
--- src/lib.rt:117:5
 slice-set-from-rows-3 : tie.Need-slice-set-from-rows-3
 slice-set-from-rows-3 c = simp length-set (omega arith)
 
--- src/lib.rt:118:20
 cast-rows-4 : tie.Need-cast-rows-4
 cast-rows-4 c = search needs
 
--- src/lib.rt:118:10
 add-t9 : tie.Need-add-t9
 add-t9 c = search needs
 
--- src/lib.rt:118:5
 mul-t11 : tie.Need-mul-t11
 mul-t11 c = search needs
 
--- src/lib.rt:118:5
 slice-set-from-rows-4 : tie.Need-slice-set-from-rows-4
 slice-set-from-rows-4 c = simp length-set (omega arith)
 
--- src/lib.rt:109:1
 same-length : tie.Need-same-length
 same-length c = search needs
 
--- src/lib.rt:109:1
 returns : tie.Need-returns
 returns c =
     rw (toZ-pos w64 {n = c .args .start} (c .pre .1 .0), toZ-pos w64 {n = c .args .size} (c .pre .1 .1), toZ-pos w64 {n = c .args .answer} (omega arith), toZ-pos w64 {n = c .args .constructor} (c .pre .1 .2))
-    (put-four (c .args .rows .now) (c .args .i) (4 * c .args .i) _ _ _ _ refl (c .pre .0))
+    (put-four (c .args .rows .now) (c .args .i) (4 * c .args .i) (c .args .start) (c .args .size) (c .args .answer) (c .args .constructor) refl (c .pre .0))
 
 pub put-row-spec : {M : Type 1} → statement M
 put-row-spec =

@@ -1,118 +1,109 @@
-use Prim.Native.Nat.{ℕ, _+_, _-_, _*_, _/_, _≤_, _<_}
-use mathlib.Core.Path.{_≡_, refl, sym, ap, _∙_}
+-- `sweeping::sweep_in` meets its contract. Assumes nothing.
+use Prim.Native.Nat.{_-_, _/_}
+use mathlib.Core.Path.{_≡_, sym, _∙_}
 use native.Mathlib.Omega.{arith}
 use borrow.Author.Needs.{needs}
 use lib.ListN.{length}
-use Rattle.format.specs.Numbers.{sectionItself}
-use Rattle.format.specs.Description.{description}
-use Rattle.format.proofs.Formation.{obeyed}
-use Rattle.format.proofs.Lists.{constructors-length}
-use Rattle.walking.specs.Scratch.{scratchLength}
-use Rattle.tables.specs.Starts.{Starts}
-use Rattle.sweeping.specs.Sweep.{sweepIn}
-use Rattle.sweeping.specs.declared.Step.the-variants.{Row}
-use Rattle.sweeping.proofs.Places.{Fits, step-fits}
-use Rattle.sweeping.proofs.Turns.{Sweeping, no-row, next-row, swept, long, used-up, no-room, stops}
+use Rattle.format.specs.Numbers.{sweepNumbers}
+use Rattle.setting.specs.Fixed.{settingIn}
+use Rattle.sweeping.specs.Sweep.{endAt, sweepFrom}
+use Rattle.sweeping.specs.Buffer.{OutcomeIn}
+use Rattle.sweeping.specs.declared.End.{End}
+use Rattle.sweeping.specs.declared.Swept.the-variants.{Ended}
+use Rattle.sweeping.proofs.Places.{Fits}
+use Rattle.sweeping.proofs.Turns.{Turn, first-turn, next-turn, row-fits, step-here, fixed-here, outcome-in, swept, long, used-up, no-room, stops}
 use Rattle.sweeping.proofs.sweep_in.Statement.{statement}
 use Rattle.sweeping.proofs.sweep_in.Tie as tie
 use Rattle.sweeping.proofs.sweep_in.Reads as reads
 use Rattle.sweeping.proofs.sweep_in.Lts as lts
+use Rattle.setting.proofs.fill.Reads as fill-reads
 use Rattle.sweeping.proofs.put_row.Reads as put-row-reads
 use Rattle.sweeping.proofs.step_at.Reads as step-at-reads
-use Rattle.tables.proofs.starts.Reads as starts-reads
 
 abbrev Inv-loop : tie.InvT-loop
-Inv-loop desc layout context code rows₀ starts scratch₀ room at₀ n₀ rows scratch at n =
-    (length scratch ≡ scratchLength) × Sweeping (description desc layout) context code room rows₀ rows at n
+Inv-loop desc context code rows₀ fixed₀ room at₀ n₀ rows fixed at n = Turn desc fixed₀ context code room rows₀ rows fixed at n
 
 abbrev μ-loop : tie.MeasureT-loop
-μ-loop desc layout context code rows₀ starts scratch₀ room at₀ n₀ rows scratch at n = length code - at
+μ-loop desc context code rows₀ fixed₀ room at₀ n₀ rows fixed at n = length code - at
 
--- src/lib.rt:125:18
-starts-requires : tie.Need-starts-requires Inv-loop μ-loop
-starts-requires c κs = search needs
+fill-requires : tie.Need-fill-requires Inv-loop μ-loop
+fill-requires c κs = search needs
 
--- src/lib.rt:130:5
 loop-holds : tie.Need-loop-holds Inv-loop μ-loop
-loop-holds c = (refl, no-row _ _ _ _ _ (omega arith))
+loop-holds c = first-turn _ _ _ _ _ _ (fixed-here _ _ _ (c .fill .ensures) (c .before .before .before .pre)) (omega arith)
 
--- src/lib.rt:132:13
+-- the loop ends so
+ended : (c : tie.At-loop Inv-loop μ-loop) (why : End)
+    → let start = c .before .before .before .before .args in
+    sweepFrom (settingIn (start .desc .now) (c .before .fill .result) .description) (start .context) (start .code .now) (length (start .rows .now) / sweepNumbers - c .loop .n) (c .loop .at) ≡ endAt why (c .loop .at)
+    → OutcomeIn (start .desc .now) (start .layout) (start .context) (start .code .now) (start .rows .now) (Ended why (c .loop .n) (c .loop .at)) (c .loop .rows)
+ended c why e = outcome-in _ _ _ (c .before .fill .ensures) _ _ _ _ _ (swept _ _ _ _ _ _ _ _ (c .loop .inv .progress) why e)
+
 same-length : tie.Need-same-length Inv-loop μ-loop
-same-length c = long _ _ _ _ _ _ _ _ (c .before .before .loop .inv .1)
+same-length c = long _ _ _ _ _ _ _ _ (c .before .before .loop .inv .progress)
 
--- src/lib.rt:132:13
 returns : tie.Need-returns Inv-loop μ-loop
-unfolding sweepIn
-returns c = swept _ _ _ _ _ _ _ _ (c .before .before .loop .inv .1) _ (no-room _ _ _ _ _ (c .before .loop-test .taken) (omega arith))
+returns c = ended (c .before .before) _ (no-room _ _ _ _ _ (c .before .loop-test .taken) (omega arith))
 
--- src/lib.rt:138:71
-slice-aggregate-step-at : tie.Need-slice-aggregate-step-at Inv-loop μ-loop
-slice-aggregate-step-at c = sym (c .before .before .before .before .loop .inv .0)
-
--- src/lib.rt:138:13
 step-at-requires : tie.Need-step-at-requires Inv-loop μ-loop
-step-at-requires c κs = (c .before .before .before .before .before .before .before .before .pre, (c .before .before .before .before .before .starts .ensures, (c .before .before .before .before .loop .inv .1 .inside, c .before .before .before .before .loop .inv .0)))
+step-at-requires c κs = let turn = c .before .before .before .loop .inv in (turn .fixed, turn .progress .inside)
 
--- src/lib.rt:142:26
 enum-told : tie.Need-enum-told Inv-loop μ-loop
 enum-told c = search needs
 
--- src/lib.rt:141:17
 same-length-2 : tie.Need-same-length-2 Inv-loop μ-loop
-same-length-2 c = long _ _ _ _ _ _ _ _ (c .before .before .before .before .before .before .before .before .loop .inv .1)
+same-length-2 c = long _ _ _ _ _ _ _ _ (c .before .before .before .before .before .before .loop .inv .progress)
 
--- src/lib.rt:141:17
 returns-2 : tie.Need-returns-2 Inv-loop μ-loop
-unfolding sweepIn
-returns-2 c = swept _ _ _ _ _ _ _ _ (c .before .before .before .before .before .before .before .before .loop .inv .1) _ (stops _ _ _ _ _ (c .before .before .before .before .before .before .before .loop-test .taken) (omega (arith, c .before .before .before .before .before .before .if1 .left, c .before .before .before .before .before .before .before .before .loop .inv .1 .few)) (sym (c .before .before .before .step-at .ensures) ∙ c .enum-told .given .1))
+returns-2 c =
+    let test = c .before .before .before .before .before in
+    let turn = test .before .loop .inv in
+    ended (test .before) _
+    (stops _ _ _ _ _ (test .loop-test .taken) (omega (arith, c .before .before .before .before .if1 .left, turn .progress .few))
+    (sym (step-here _ _ _ _ _ _ _ _ _ _ turn) ∙ sym (c .before .before .step-at .ensures .0) ∙ c .enum-told .given .1))
 
--- src/lib.rt:148:17
 enum-known-found : tie.Need-enum-known-found Inv-loop μ-loop
 enum-known-found c = search needs
 
--- src/lib.rt:152:17
 -- the row that was found fits
-fits : (c : tie.After-found Inv-loop μ-loop) → Fits (c .before .before .before .before .before .before .before .before .before .before .before .before .args .code .now) (c .before .before .before .before .before .before .before .before .loop .at) (c .found .given .0 .0) (c .found .given .0 .1 .1 .0)
+fits : (c : tie.After-found Inv-loop μ-loop)
+    → let place = c .before .before .before .before .before .before in
+    Fits (place .before .before .before .before .args .code .now) (place .loop .at) (c .found .given .0 .0) (c .found .given .0 .1 .1 .0)
 fits c =
-    step-fits (description (c .before .before .before .before .before .before .before .before .before .before .before .before .args .desc .now) (c .before .before .before .before .before .before .before .before .before .before .before .before .args .layout)) (obeyed _ _ (c .before .before .before .before .before .before .before .before .before .before .before .before .pre)) (rw constructors-length (omega (arith, c .before .before .before .before .before .before .before .before .before .before .before .before .pre .room .few)))
-    (c .before .before .before .before .before .before .before .before .before .before .before .before .args .context) (c .before .before .before .before .before .before .before .before .before .before .before .before .args .code .now) (c .before .before .before .before .before .before .before .before .loop .at) (c .before .before .before .before .before .before .before .loop-test .taken) _ (c .found .given .0 .1 .0) _ (sym (c .before .before .before .step-at .ensures) ∙ c .found .given .1)
+    let test = c .before .before .before .before .before in
+    row-fits _ _ _ _ _ _ _ _ _ _ (test .before .loop .inv) _ _ _ (sym (c .before .before .step-at .ensures .0) ∙ c .found .given .1) (test .loop-test .taken)
 
 put-row-requires : tie.Need-put-row-requires Inv-loop μ-loop
 put-row-requires c κs =
     let f = fits (c .before .before) in
-    let t = c .before .before .before .before .before .before .before .before .before .before .loop .inv .1 in (
-      omega (arith, long _ _ _ _ _ _ _ _ t, t .lent, t .few, c .before .before .before .before .before .before .before .before .if1 .left),
-      (omega (arith, t .inside), omega (arith, f .here), omega (arith, f .small)),
+    let turn = c .before .before .before .before .before .before .before .before .loop .inv .progress in (
+      omega (arith, long _ _ _ _ _ _ _ _ turn, turn .lent, turn .few, c .before .before .before .before .before .before .if1 .left),
+      (omega (arith, turn .inside), omega (arith, f .here), omega (arith, f .small)),
     )
 
--- src/lib.rt:153:17
 add-at : tie.Need-add-at Inv-loop μ-loop
 add-at c = omega (arith, fits (c .before .before .before .before) .here)
 
--- src/lib.rt:154:17
 add-n : tie.Need-add-n Inv-loop μ-loop
-add-n c = omega (arith, c .before .before .before .before .before .before .before .before .before .before .before .before .loop .inv .1 .few, c .before .before .before .before .before .before .before .before .before .before .before .before .loop .inv .1 .lent)
+add-n c = let turn = c .before .before .before .before .before .before .before .before .before .before .loop .inv .progress in omega (arith, turn .few, turn .lent)
 
--- src/lib.rt:130:5
 loop-less : tie.Need-loop-less Inv-loop μ-loop
-loop-less c = omega (arith, fits (c .before .before .before .before) .some, fits (c .before .before .before .before) .here)
+loop-less c = let f = fits (c .before .before .before .before) in omega (arith, f .some, f .here)
 
--- src/lib.rt:130:5
 loop-again : tie.Need-loop-again Inv-loop μ-loop
 loop-again c =
-    let t = c .before .before .before .before .before .before .before .before .before .before .before .before .loop .inv .1 in (
-      c .before .before .before .before .before .before .before .step-at .kept .1 .1 .1 .1 .1 .1 .0 ∙ c .before .before .before .before .before .before .before .before .before .before .before .before .loop .inv .0,
-      next-row _ _ _ _ _ _ _ _ t _ _ _ _ (c .before .before .before .before .before .before .before .before .before .before .before .loop-test .taken) (omega (arith, t .few, c .before .before .before .before .before .before .before .before .before .before .if1 .left)) (sym (c .before .before .before .before .before .before .before .step-at .ensures) ∙ c .before .before .before .before .found .given .1) (fits (c .before .before .before .before) .here) (c .before .put-row .ensures),
-    )
+    let found = c .before .before .before .before in
+    let step = found .before .before .step-at in
+    let test = found .before .before .before .before .before in
+    let turn = test .before .loop .inv in
+    next-turn _ _ _ _ _ _ _ _ _ _ turn _ _ _ (sym (step .ensures .0) ∙ found .found .given .1) (test .loop-test .taken) _ _
+    (omega (arith, turn .progress .few, found .before .before .before .before .if1 .left)) (step .ensures .1) (c .before .put-row .ensures)
 
--- src/lib.rt:121:1
 same-length-3 : tie.Need-same-length-3 Inv-loop μ-loop
-same-length-3 c = long _ _ _ _ _ _ _ _ (c .before .loop .inv .1)
+same-length-3 c = long _ _ _ _ _ _ _ _ (c .before .loop .inv .progress)
 
--- src/lib.rt:121:1
 returns-3 : tie.Need-returns-3 Inv-loop μ-loop
-unfolding sweepIn
-returns-3 c = swept _ _ _ _ _ _ _ _ (c .before .loop .inv .1) _ (used-up _ _ _ _ _ (c .loop-test .left))
+returns-3 c = ended (c .before) _ (used-up _ _ _ _ _ (c .loop-test .left))
 
 pub sweep-in-spec : {M : Type 1} → statement M
 sweep-in-spec =
@@ -120,11 +111,10 @@ sweep-in-spec =
     (tie.spec
     Inv-loop
     μ-loop
-    starts-requires
+    fill-requires
     loop-holds
     same-length
     returns
-    slice-aggregate-step-at
     step-at-requires
     enum-told
     same-length-2
