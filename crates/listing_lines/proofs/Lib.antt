@@ -1,4 +1,4 @@
--- Laws of the listing.
-mod Laying
+-- Laws of a line.
+mod Appending
 mod Showing
-pub mod Joined
+mod Made

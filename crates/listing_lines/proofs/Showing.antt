@@ -1,64 +1,76 @@
--- What is shown at a place, from the walk's answer.
+-- What is shown at a place, from the instruction there.
 use Prim.Native.Nat.{ℕ, suc, _+_, _-_, _≤_, _<_}
-use mathlib.Core.Bool.{Bool, true, false, cond}
 use mathlib.Core.List.{List}
 use mathlib.Core.Path.{_≡_, refl, sym, ap, subst, _∙_}
 use native.Mathlib.Omega.{arith}
-use lib.IntN.{ℤ}
-use lib.ListN.{length, getD, take, drop, length-drop}
+use lib.IntN.{ℤ, pos}
+use lib.ListN.{length, getD, drop, replicate, length-drop}
 use Rattle.format.specs.Numbers.{mostRows}
 use Rattle.format.specs.Description.{Description}
-use Rattle.format.proofs.Formation.{Obeyed}
-use Rattle.instruction.specs.Tree.{Node, rowsOf}
-use Rattle.instruction.specs.Walk.{Result, done, refused, instructionOf}
-use Rattle.instruction.specs.declared.Refusal.{Refusal}
-use Rattle.instruction.proofs.Lying.{lies}
-use Rattle.walking.specs.Scratch.{scratchLength}
-use Rattle.walking.specs.Walks.{WalksTo}
-use Rattle.walking.specs.declared.Walked.{Walked}
+use Rattle.decoding_spec.specs.State.{Setting}
+use Rattle.decoding_spec.specs.Walk.{instructionOf}
+use Rattle.decoding_spec.specs.declared.State.{State}
+use Rattle.decoding_spec.specs.declared.Refusal.{Refusal}
+use Rattle.decoding_theorems.proofs.InBounds.{in-bounds}
+use Rattle.setting.specs.Fixed.{Fixed, settingIn, totalPlace}
+use Rattle.setting.proofs.Laws.{obeyed-in, fixed-for, setting-for}
+use Rattle.walking.specs.Walks.{instructionAs, resultAt, toldLength}
+use Rattle.walking.specs.declared.Instruction.{Instruction}
 use Rattle.walking.specs.declared.Walked.the-variants as walked
-use Rattle.walking.proofs.Steps.{was-refused}
+use Rattle.walking.proofs.Instructions.{was-refused, was-done}
+use Rattle.text.specs.Text.{textOf}
 use Rattle.text.specs.Places.{textAt, Sound}
-use Rattle.text.proofs.Decoded.{left, rows-some, rows-sound, text-is}
-use Rattle.listing_lines.specs.Listing.{isShort, refusedText, refusedNext, fitting, shownBy, nextBy, shownAt, nextAt}
-use Rattle.listing_lines.specs.Lining.{Put, Moves}
-use Rattle.listing_lines.specs.declared.Place.{Place}
-use Rattle.listing_lines.specs.declared.Place.the-variants.{At, End}
+use Rattle.text.specs.Prints.{described, wholeText}
+use Rattle.text.proofs.InstructionText.{rows-used, rows-sound, rows-text}
+use Rattle.listing_lines.specs.Line.{refusedText, refusedNext, fitting, shownBy, nextBy, shownAt, nextAt}
+use Rattle.listing_lines.specs.Put.{Put, PlaceOf, Shows, ShowsText}
+use Rattle.listing_lines.specs.declared.Shown.{Shown}
 
-module _ (d : Description) (o : Obeyed d) (s : List ℕ) (at : ℕ) (part : List ℕ) (is : part ≡ drop at s) (w : Walked) (before scratch : List ℤ)
-    (walks : WalksTo rowsOf (instructionOf d 0 part) w 0 before scratch) where
-  pub shows-refusal : (r : Refusal) → w ≡ walked.Refused r → (old new : List ℕ) (n : ℕ) (next : Place) → Put (refusedText (getD s at 0) r) old new n
-      → next ≡ refusedNext at r → Put (shownAt d s at) old new n × (next ≡ nextAt d s at)
-  unfolding shownAt nextAt
-  shows-refusal r e old new n next p q =
-      let z : instructionOf d 0 (drop at s) ≡ refused r = ap (instructionOf d 0) (sym is) ∙ was-refused rowsOf 0 before scratch (instructionOf d 0 part) w r walks e in
-      (rw z p, rw z q)
+module _ (b a s : List ℕ) (c at : ℕ) (place : PlaceOf b a s at) (a′ : List ℕ) (told : a′ ≡ toldLength a s at) where
+  -- the description stays the same
+  pub same-description : described b a′ ≡ described b a
+  same-description =
+      ap (λ (n : List ℕ). described b n) told ∙ ap (λ (g : Setting). g .description) (setting-for b a (length s - at) (omega (arith, place .fixed .long)))
 
-  module _ (long : length scratch ≡ scratchLength) (u l : ℕ) (e : w ≡ walked.Done u l) (few : u ≤ mostRows) where
-    pub scratch-sound : Sound d scratch u
-    scratch-sound = rows-sound d o 0 part w before scratch walks long u l e few
+  pub fixed-there : Fixed b a′
+  fixed-there = rw told (fixed-for b a (length s - at) (place .fixed))
 
-    pub scratch-some : 0 < u
-    scratch-some = rows-some d o 0 part w before scratch walks long u l e few
+  module _ (i : Instruction) (is : i ≡ instructionAs (resultAt b a s at c)) where
+    here : i ≡ instructionAs (instructionOf (described b a) c (drop at s))
+    unfolding resultAt
+    here = is
 
-    pub shows-text : (old new : List ℕ) (n : ℕ) → Put (fitting (textAt d scratch (suc mostRows) 0)) old new n
-        → Put (shownAt d s at) old new n × (At (at + l) ≡ nextAt d s at)
+    pub shows-refusal : (r : Refusal) → i .walked ≡ walked.Refused r → (old new : List ℕ) (shown : Shown) → Put (refusedText (getD s at 0) r) old new (shown .size)
+        → shown .next ≡ refusedNext at (length s) r → Shows b a s c at old shown new a′
     unfolding shownAt nextAt
-    shows-text old new n p =
-        let x = left d o 0 part w before scratch walks long u l e few in
-        let z : instructionOf d 0 (drop at s) ≡ done (x .found) l = ap (instructionOf d 0) (sym is) ∙ x .is in
-        let t = text-is d o 0 part w before scratch walks long u l e few in
-        (subst (λ (v : List ℕ). Put v old new n) (sym (ap (shownBy d (getD s at 0)) z)) (rw t at p), sym (ap (nextBy at) z))
+    shows-refusal r e old new shown p q =
+        let z = was-refused (described b a) c (drop at s) i here r e in
+        record { text = rw z p; next = rw z q; told = told }
 
--- "A done instruction moves on by its length", and anything else by one byte
-pub moves-on : (d : Description) → Obeyed d → (s : List ℕ) (at : ℕ) → at < length s → Moves at (length s) (nextAt d s at)
-unfolding nextAt
-moves-on d o s at h = go (instructionOf d 0 (drop at s)) refl
-  where
-    one : (b : Bool) → Moves at (length s) (cond b End (At (at + 1)))
-    one true = tt
-    one false = (omega arith, omega arith)
+    module _ (l : ℕ) (st : State) (e : i .walked ≡ walked.Done st l) where
+      pub rows-there : Sound (described b a′) (i .rows) (st .used) × (0 < st .used)
+      rows-there =
+          let w = was-done (described b a) c (drop at s) i here l st e in
+          let o = obeyed-in b a (place .fixed) in (
+            rw (same-description, w .rows) (rows-sound (described b a) o c (drop at s) (w .tree) l st (w .result)),
+            rows-used (described b a) o c (drop at s) (w .tree) l st (w .result),
+          )
 
-    go : (r : Result Node) → instructionOf d 0 (drop at s) ≡ r → Moves at (length s) (nextBy at r)
-    go (done n l) e = let f = lies d o 0 (drop at s) n l e in (omega (arith, f .some), omega (arith, f .here, length-drop at s))
-    go (refused r) e = one (isShort r)
+      pub next-fits : at + l ≤ length s
+      next-fits =
+          let w = was-done (described b a) c (drop at s) i here l st e in
+          omega (arith, in-bounds (described b a) c (drop at s) (w .tree) l st (w .result) .here, length-drop at s, place .inside)
+
+      pub shows-text : (old new : List ℕ) (n : ℕ) → ShowsText b a′ (i .rows) old new n → Shows b a s c at old (record { size = n; next = at + l }) new a′
+      unfolding shownAt nextAt
+      shows-text old new n p =
+          let w = was-done (described b a) c (drop at s) i here l st e in
+          let t : wholeText b a′ (i .rows) ≡ textOf (described b a) (w .tree) =
+          ap (λ (d : Description). textAt d (i .rows) (suc mostRows) 0) same-description
+          ∙ ap (λ (rows : List ℤ). textAt (described b a) rows (suc mostRows) 0) (w .rows)
+          ∙ rows-text (described b a) (obeyed-in b a (place .fixed)) c (drop at s) (w .tree) l st (w .result) in
+          record {
+            text = subst (λ (v : List ℕ). Put v old new n) (ap fitting t ∙ sym (ap (shownBy (described b a) (getD s at 0)) (w .result))) p;
+            next = sym (ap (nextBy at (length s)) (w .result));
+            told = told;
+          }

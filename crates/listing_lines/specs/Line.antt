@@ -74,8 +74,11 @@ unfoldable pub lineAt : Description → ℕ → List ℕ → ℕ → List ℕ
 lineAt d c s at = lineText at (shownAt d c s at)
 
 -- "A bad description prints one line, as "malformed 6 65535"."
-unfoldable pub faultText : Rejection → List ℕ
-faultText x = malformedWord ++ digitsOf 10 (firstValue x) ++ (32 ∷ []) ++ digitsOf 10 (secondValue x) ++ (10 ∷ [])
+unfoldable pub malformedText : (section number : ℕ) → List ℕ
+malformedText section number = malformedWord ++ digitsOf 10 section ++ (32 ∷ []) ++ digitsOf 10 number ++ (10 ∷ [])
+
+abbrev pub faultText : Rejection → List ℕ
+faultText x = malformedText (firstValue x) (secondValue x)
 
 -- room for the longest line: eight digits, a colon and a blank, a text, the line's end
 abbrev pub lineBytes : ℕ

@@ -1,13 +1,12 @@
 -- What the functions of a line say of the buffers lent to them.
-use Prim.Native.Nat.{ℕ, suc, _+_, _≤_, _<_}
+use Prim.Native.Nat.{ℕ, _+_, _≤_, _<_}
 use mathlib.Core.List.{List, _++_}
 use mathlib.Core.Path.{_≡_}
 use lib.IntN.{ℤ}
 use lib.ListN.{length, take}
-use Rattle.format.specs.Numbers.{mostRows}
 use Rattle.printing.specs.Writing.{over}
-use Rattle.text.specs.Places.{textAt}
-use Rattle.setting.specs.Fixed.{Fixed, settingIn}
+use Rattle.text.specs.Prints.{described, wholeText}
+use Rattle.setting.specs.Fixed.{Fixed}
 use Rattle.walking.specs.Walks.{toldLength}
 use Rattle.listing_lines.specs.Line.{fitting, shownAt, nextAt}
 use Rattle.listing_lines.specs.declared.Shown.{Shown}
@@ -30,10 +29,10 @@ pub record PlaceOf (b a s : List ℕ) (at : ℕ) : Type 0 where
 
 -- what stands at a place is shown, and the walk was told the length from there on
 pub record Shows (b a s : List ℕ) (c at : ℕ) (old : List ℕ) (r : Shown) (new a′ : List ℕ) : Type 0 where
-  pub text : Put (shownAt (settingIn b a .description) c s at) old new (r .size)
-  pub next : r .next ≡ nextAt (settingIn b a .description) c s at
+  pub text : Put (shownAt (described b a) c s at) old new (r .size)
+  pub next : r .next ≡ nextAt (described b a) c s at
   pub told : a′ ≡ toldLength a s at
 
 -- the text of the rows, or ".long"
 abbrev pub ShowsText : (b a : List ℕ) → List ℤ → (old new : List ℕ) → ℕ → Type 0
-ShowsText b a rows old new n = Put (fitting (textAt (settingIn b a .description) rows (suc mostRows) 0)) old new n
+ShowsText b a rows old new n = Put (fitting (wholeText b a rows)) old new n

@@ -9,12 +9,13 @@ ghost use mathlib.Core.List.{List, [], _∷_, _++_};
 ghost use mathlib.Core.Path.{_≡_};
 ghost use Prim.Native.Nat.{suc, _+_, _%_, _<_, _≤_};
 ghost use lib.ListN.{length, getD};
-ghost use Rattle.format.specs.Numbers.{longestText, mostRows};
+ghost use Rattle.format.specs.Numbers.{longestText};
 ghost use Rattle.printing.specs.Numerals.{digitOf, digitsOf};
-ghost use Rattle.setting.specs.Fixed.{Fixed, settingIn};
-ghost use Rattle.text.specs.Places.{textAt, Sound};
+ghost use Rattle.setting.specs.Fixed.{Fixed};
+ghost use Rattle.text.specs.Places.{Sound};
+ghost use Rattle.text.specs.Prints.{described};
 ghost use Rattle.walking.specs.Walks.{toldLength};
-ghost use Rattle.listing_lines.specs.Line.{hexDigits, byteText, refusedText, refusedNext, fitting, lineText, listingLine, faultLine};
+ghost use Rattle.listing_lines.specs.Line.{hexDigits, byteText, refusedText, refusedNext, fitting, lineText, lineBytes, malformedText, listingLine, faultLine};
 ghost use Rattle.listing_lines.specs.Put.{Put, Appended, PlaceOf, Shows, ShowsText};
 
 // The bytes of a line at most: the address, a colon, a blank, a text and the line's end.
@@ -132,9 +133,8 @@ fn show_text(
     used: usize,
     out: &mut [u8],
 ) -> usize
-    requires { ⌜ Fixed (now desc) (now fixed) ⌝ }
-    requires { ⌜ Sound (settingIn (now desc) (now fixed) .description) (now rows) used ⌝ }
-    requires { ⌜ (0 < used) × (length (now out) ≡ longestText) ⌝ }
+    requires { ⌜ Fixed (now desc) (now fixed) × (length (now out) ≡ longestText) ⌝ }
+    requires { ⌜ Sound (described (now desc) (now fixed)) (now rows) used × (0 < used) ⌝ }
     ensures { λ r. ⌜ ShowsText (now (desc .entry)) (now (fixed .entry)) (now (rows .entry)) (now (out .entry)) (now (out .exit)) r ⌝ }
 {
     let line = text::print_text(desc, fixed, rows, used, out);
@@ -179,7 +179,7 @@ pub fn line_at(
     at: usize,
 ) -> ListingLine
     requires { ⌜ PlaceOf (now desc) (now fixed) (now code) at ⌝ }
-    ensures { λ r. ⌜ r ≡ listingLine (settingIn (now (desc .entry)) (now (fixed .entry)) .description) context (now (code .entry)) at ⌝ }
+    ensures { λ r. ⌜ r ≡ listingLine (described (now (desc .entry)) (now (fixed .entry))) context (now (code .entry)) at ⌝ }
     ensures { λ _. ⌜ now (fixed .exit) ≡ toldLength (now (fixed .entry)) (now (code .entry)) at ⌝ }
 {
     let mut shown = [0u8; format::TEXT];
@@ -203,15 +203,24 @@ fn append_number(n: usize, out: &mut [u8], at: usize) -> usize
     }
 }
 
+fn put_fault(first: usize, second: usize, line: &mut [u8]) -> usize
+    requires { ⌜ length (now line) ≡ lineBytes ⌝ }
+    ensures { λ r. ⌜ Put (malformedText first second) (now (line .entry)) (now (line .exit)) r ⌝ }
+{
+    let a = append(b"malformed ", line, 0);
+    let b = append_number(first, line, a);
+    let c = append(b" ", line, b);
+    let d = append_number(second, line, c);
+    append(b"\n", line, d)
+}
+
 // The one line of a bad description.
 pub fn fault_line(rejection: Rejection) -> FaultLine
     ensures { λ r. ⌜ r ≡ faultLine rejection ⌝ }
 {
+    let first = acceptance::first_value(rejection);
+    let second = acceptance::second_value(rejection);
     let mut bytes = [0u8; LINE];
-    let a = append(b"malformed ", &mut bytes, 0);
-    let b = append_number(acceptance::first_value(rejection), &mut bytes, a);
-    let c = append(b" ", &mut bytes, b);
-    let d = append_number(acceptance::second_value(rejection), &mut bytes, c);
-    let size = append(b"\n", &mut bytes, d);
+    let size = put_fault(first, second, &mut bytes);
     FaultLine { bytes, size }
 }

@@ -27,7 +27,7 @@ same-length c = search needs
 
 returns : tie.Need-returns
 unfolding decodeOf rowsAfter
-returns c = 
+returns c =
     let e = sym (c .before .before .before .before .before .before .accept .ensures) ∙ c .before .before .before .before .acceptance .given .1 in
     (rw e (c .before .decode-in .ensures .answer), rw e (c .before .decode-in .ensures .buffer))
 

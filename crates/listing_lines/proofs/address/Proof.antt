@@ -1,4 +1,4 @@
-use Rattle.listing_lines.specs.Listing.{hexDigits}
+use Rattle.listing_lines.specs.Line.{hexDigits}
 use borrow.Author.Needs.{needs}
 use Rattle.listing_lines.proofs.address.Statement.{statement}
 use Rattle.listing_lines.proofs.address.Tie as tie
@@ -6,39 +6,30 @@ use Rattle.listing_lines.proofs.address.Reads as reads
 use Rattle.listing_lines.proofs.address.Lts as lts
 use Rattle.listing_lines.proofs.digit.Reads as digit-reads
 
--- src/lib.rt:102:9
 digit-requires : tie.Need-digit-requires
 digit-requires c κs = search needs
 
--- src/lib.rt:103:9
 digit-requires-2 : tie.Need-digit-requires-2
 digit-requires-2 c κs = search needs
 
--- src/lib.rt:104:9
 digit-requires-3 : tie.Need-digit-requires-3
 digit-requires-3 c κs = search needs
 
--- src/lib.rt:105:9
 digit-requires-4 : tie.Need-digit-requires-4
 digit-requires-4 c κs = search needs
 
--- src/lib.rt:106:9
 digit-requires-5 : tie.Need-digit-requires-5
 digit-requires-5 c κs = search needs
 
--- src/lib.rt:107:9
 digit-requires-6 : tie.Need-digit-requires-6
 digit-requires-6 c κs = search needs
 
--- src/lib.rt:108:9
 digit-requires-7 : tie.Need-digit-requires-7
 digit-requires-7 c κs = search needs
 
--- src/lib.rt:109:9
 digit-requires-8 : tie.Need-digit-requires-8
 digit-requires-8 c κs = search needs
 
--- src/lib.rt:91:1
 returns : tie.Need-returns
 unfolding hexDigits
 returns c = rw (c .before .before .before .before .before .before .before .digit .ensures, c .before .before .before .before .before .before .digit2 .ensures, c .before .before .before .before .before .digit3 .ensures, c .before .before .before .before .digit4 .ensures, c .before .before .before .digit5 .ensures, c .before .before .digit6 .ensures, c .before .digit7 .ensures, c .digit8 .ensures)

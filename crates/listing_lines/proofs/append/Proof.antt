@@ -1,5 +1,6 @@
-use mathlib.Core.Path.{refl, sym, ap, _∙_}
-use Rattle.listing_lines.proofs.Laying.{part-put}
+-- `listing_lines::append` meets its contract. Assumes nothing.
+use mathlib.Core.Path.{refl}
+use Rattle.listing_lines.proofs.Appending.{part-put}
 use borrow.Author.Needs.{needs}
 use Rattle.listing_lines.proofs.append.Statement.{statement}
 use Rattle.listing_lines.proofs.append.Tie as tie
@@ -7,33 +8,28 @@ use Rattle.listing_lines.proofs.append.Reads as reads
 use Rattle.listing_lines.proofs.append.Lts as lts
 use Rattle.printing.proofs.put_bytes.Reads as put-bytes-reads
 
--- src/lib.rt:80:30
 sub-put-bytes : tie.Need-sub-put-bytes
 sub-put-bytes c = search needs
 
--- src/lib.rt:80:30
 part-put-bytes-start : tie.Need-part-put-bytes-start
 part-put-bytes-start c = search needs
 
--- src/lib.rt:80:30
 part-put-bytes-end : tie.Need-part-put-bytes-end
 part-put-bytes-end c = search needs
 
--- src/lib.rt:80:5
 put-bytes-requires : tie.Need-put-bytes-requires
 put-bytes-requires c κs = search needs
 
--- src/lib.rt:81:5
 add-result : tie.Need-add-result
 add-result c = search needs
 
--- src/lib.rt:76:1
 same-length : tie.Need-same-length
 same-length c = search needs
 
--- src/lib.rt:76:1
 returns : tie.Need-returns
-returns c = (refl, part-put (c .before .before .before .before .before .before .args .at) _ (c .before .before .before .before .before .before .args .out .now) _ _ _ (c .before .before .before .before .before .before .pre) refl (c .before .before .put-bytes .ensures))
+returns c =
+    let start = c .before .before .before .before .before .before in
+    record { size = refl; holds = part-put (start .args .at) _ (start .args .out .now) _ _ _ (start .pre) refl (c .before .before .put-bytes .ensures) }
 
 pub append-spec : {M : Type 1} → statement M
 append-spec =

@@ -1,4 +1,4 @@
-use Rattle.listing_lines.specs.Listing.{byteText, hexDigits}
+use Rattle.listing_lines.specs.Line.{byteText, hexDigits}
 use borrow.Author.Needs.{needs}
 use Rattle.listing_lines.proofs.byte_text.Statement.{statement}
 use Rattle.listing_lines.proofs.byte_text.Tie as tie
@@ -6,15 +6,12 @@ use Rattle.listing_lines.proofs.byte_text.Reads as reads
 use Rattle.listing_lines.proofs.byte_text.Lts as lts
 use Rattle.listing_lines.proofs.digit.Reads as digit-reads
 
--- src/lib.rt:155:9
 digit-requires : tie.Need-digit-requires
 digit-requires c κs = search needs
 
--- src/lib.rt:156:9
 digit-requires-2 : tie.Need-digit-requires-2
 digit-requires-2 c κs = search needs
 
--- src/lib.rt:142:1
 returns : tie.Need-returns
 unfolding byteText hexDigits
 returns c = rw (c .before .digit .ensures, c .digit2 .ensures)

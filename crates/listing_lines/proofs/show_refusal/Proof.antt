@@ -1,63 +1,53 @@
-use lib.ListN.{length}
-use mathlib.Core.Path.{_≡_, refl, sym, ap, _∙_}
-use native.Mathlib.Omega.{arith}
-use Rattle.listing_lines.proofs.Laying.{put-first, byte-long}
+-- `listing_lines::show_refusal` meets its contract. Assumes nothing.
 use borrow.Author.Needs.{needs}
+use mathlib.Core.Path.{sym, ap, _∙_}
+use native.Mathlib.Omega.{arith}
+use lib.ListN.{length}
+use Rattle.listing_lines.proofs.Appending.{put-first, byte-long}
 use Rattle.listing_lines.proofs.show_refusal.Statement.{statement}
 use Rattle.listing_lines.proofs.show_refusal.Tie as tie
 use Rattle.listing_lines.proofs.show_refusal.Reads as reads
 use Rattle.listing_lines.proofs.show_refusal.Lts as lts
+use Rattle.decoding_spec.proofs.is_short.Reads as is-short-reads
 use Rattle.listing_lines.proofs.append.Reads as append-reads
 use Rattle.listing_lines.proofs.byte_text.Reads as byte-text-reads
-use Rattle.listing_lines.proofs.is_short.Reads as is-short-reads
 
--- src/lib.rt:165:8
 is-short-requires : tie.Need-is-short-requires
 is-short-requires c κs = search needs
 
--- src/lib.rt:167:26
 slice-aggregate-append : tie.Need-slice-aggregate-append
 slice-aggregate-append c = search needs
 
--- src/lib.rt:167:19
 append-requires : tie.Need-append-requires
 append-requires c κs = search needs
 
--- src/lib.rt:166:9
 same-length : tie.Need-same-length
 same-length c = search needs
 
--- src/lib.rt:166:9
 returns : tie.Need-returns
 returns c =
     let e = sym (c .before .before .before .before .before .before .is-short .ensures) ∙ c .before .before .before .before .before .if1 .taken in
-    (rw e (put-first _ _ _ _ (omega arith) (c .before .before .append .ensures .0) (c .before .before .append .ensures .1)), rw e)
+    (rw e (put-first _ _ _ _ (omega arith) (c .before .before .append .ensures)), rw e)
 
--- src/lib.rt:171:16
 byte-text-requires : tie.Need-byte-text-requires
 byte-text-requires c κs = search needs
 
--- src/lib.rt:173:22
 slice-aggregate-append-2 : tie.Need-slice-aggregate-append-2
 slice-aggregate-append-2 c = search needs
 
--- src/lib.rt:173:15
 append-requires-2 : tie.Need-append-requires-2
 append-requires-2 c κs = search needs
 
--- src/lib.rt:174:25
 add-t20 : tie.Need-add-t20
 add-t20 c = search needs
 
--- src/lib.rt:161:1
 same-length-2 : tie.Need-same-length-2
 same-length-2 c = search needs
 
--- src/lib.rt:161:1
 returns-2 : tie.Need-returns-2
 returns-2 c =
     let e = sym (c .before .before .before .before .before .before .before .is-short .ensures) ∙ c .before .before .before .before .before .before .if1 .left in
-    (rw (e, ← c .before .before .before .before .before .byte-text .ensures) (put-first _ _ _ _ (omega (arith, ap length (c .before .before .before .before .before .byte-text .ensures) ∙ byte-long (c .before .before .before .before .before .before .before .before .before .args .byte))) (c .before .before .append2 .ensures .0) (c .before .before .append2 .ensures .1)), rw e)
+    (rw (e, ← c .before .before .before .before .before .byte-text .ensures) (put-first _ _ _ _ (omega (arith, ap length (c .before .before .before .before .before .byte-text .ensures) ∙ byte-long (c .before .before .before .before .before .before .before .before .before .args .byte))) (c .before .before .append2 .ensures)), rw e)
 
 pub show-refusal-spec : {M : Type 1} → statement M
 show-refusal-spec =

@@ -1,4 +1,4 @@
--- Bytes put one behind the other over a part, and the two parts of the input.
+-- Bytes put one behind the other over a part.
 use Prim.Native.Nat.{ℕ, _+_, _-_, _≤_, _<_, min}
 use mathlib.Core.Bool.{Bool, true, false, cond}
 use mathlib.Core.List.{List, [], _∷_, _++_, append-assoc}
@@ -9,7 +9,6 @@ use borrow.Author.Tests.{le-leb, leb-true}
 use lib.Dec.{leb}
 use lib.ListN.{length, take, drop, length-append, length-drop, drop-of-length-le}
 use lib.Seq.{take-all, take-at, take-nil, drop-append-add, drop-drop, length-take-le}
-use Rattle.format.specs.Bytes.{wordAt}
 use Rattle.format.specs.Numbers.{longestText}
 use Rattle.printing.specs.Writing.{Puts, over}
 use Rattle.printing.specs.Numerals.{digitsOf}
@@ -17,12 +16,11 @@ use Rattle.printing.specs.declared.Printed.{Printed}
 use Rattle.printing.specs.declared.Printed.the-variants.{Wrote, Full}
 use Rattle.printing.proofs.Numerals.{digits-length}
 use Rattle.printing.proofs.Writing.{part-over, over-take, puts-wrote, puts-full}
-use Rattle.text.specs.Lines.{Lines}
+use Rattle.text.specs.Lines.{lineOf, lentAfter}
 use Rattle.text.specs.declared.Line.{Line}
-use Rattle.text.specs.declared.Line.the-variants.{Written, Long, NoRoom}
-use Rattle.listing_lines.specs.Listing.{mostCode, descriptionPart, codePart, hexDigits, byteText, longWord, fitting}
-use Rattle.listing_lines.specs.Lining.{Splits, Put}
-use Rattle.listing_lines.specs.declared.Split.{Split}
+use Rattle.text.specs.declared.Line.the-variants.{Written, TextTooLong, NoRoom}
+use Rattle.listing_lines.specs.Line.{hexDigits, byteText, longWord, fitting}
+use Rattle.listing_lines.specs.Put.{Put, Appended}
 
 -- bytes put behind others
 pub over-over : (x y l : List ℕ) (a : ℕ) → a ≡ length x → over (take a (over x l) ++ y) (over x l) ≡ over (x ++ y) l
@@ -44,59 +42,17 @@ part-put at w before mid part r h e p =
     part-over (take at before) w before (sym (length-take-le at before (omega arith))) (over-take at before (omega arith))
     (rw fits at (p .holds) ∙ ap (over w) e)
 
--- no more than there are
-take-few : (n k : ℕ) (l : List ℕ) → k ≡ min n (length l) → take k l ≡ take n l
-take-few n k l e = go (decLt n (length l))
-  where
-    go : Dec (n < length l) → take k l ≡ take n l
-    go (yes p) = let z : k ≡ n = omega arith in rw z
-    go (no p) = take-all k l (omega arith) ∙ sym (take-all n l (omega arith))
-
-no-bytes : (n at : ℕ) (l : List ℕ) → length l ≤ at → take n (drop at l) ≡ []
-no-bytes n at l h = ap (take n) (drop-of-length-le l {i = at} h) ∙ take-nil n
-
-pub splits-none : (input : List ℕ) (n : ℕ) → n ≡ length input → n < 2 → Splits input (record { start = n; end = n; last = n })
-unfolding descriptionPart codePart
-splits-none input n e h =
-    record {
-      order = omega arith;
-      next = omega arith;
-      inside = omega arith;
-      few = omega arith;
-      description = no-bytes (n - n) n input (omega arith) ∙ sym (no-bytes (wordAt input 0) 2 input (omega arith));
-      code = no-bytes (n - n) n input (omega arith) ∙ sym (no-bytes mostCode (2 + wordAt input 0) input (omega arith));
-    }
-
-pub splits-at : (input : List ℕ) (n word end last : ℕ) → n ≡ length input → 2 ≤ n → word ≡ wordAt input 0 → end ≡ min (2 + word) n
-    → last ≡ min (end + mostCode) n → Splits input (record { start = 2; end = end; last = last })
-unfolding descriptionPart codePart
-splits-at input n word end last e h w f g =
-    record {
-      order = omega arith;
-      next = omega arith;
-      inside = omega arith;
-      few = omega arith;
-      description = rw (← w) (take-few word (end - 2) (drop 2 input) (omega (arith, length-drop 2 input)));
-      code = rw (← w) (go (decLt n (2 + word)));
-    }
-  where
-    go : Dec (n < 2 + word) → take (last - end) (drop end input) ≡ take mostCode (drop (2 + word) input)
-    go (yes p) = no-bytes (last - end) end input (omega arith) ∙ sym (no-bytes mostCode (2 + word) input (omega arith))
-    go (no p) =
-        let z : end ≡ 2 + word = omega arith in
-        take-few mostCode (last - end) (drop end input) (omega (arith, length-drop end input)) ∙ rw z
-
 -- bytes put over a part, and more behind them
-pub put-first : (w l m : List ℕ) (n : ℕ) → length w ≤ length l → n ≡ 0 + length w → m ≡ over (take 0 l ++ w) l → Put w l m n
-put-first w l m n h e f = record { size = omega arith; fits = h; holds = f }
+pub put-first : (w l m : List ℕ) (n : ℕ) → length w ≤ length l → Appended 0 w l m n → Put w l m n
+put-first w l m n h e = record { size = omega (arith, e .size); fits = h; holds = e .holds }
 
-pub put-more : (v w l m m′ : List ℕ) (n n′ : ℕ) → Put v l m n → length v + length w ≤ length l → n′ ≡ n + length w → m′ ≡ over (take n m ++ w) m
+pub put-more : (v w l m m′ : List ℕ) (n n′ : ℕ) → Put v l m n → length v + length w ≤ length l → Appended n w m m′ n′
     → Put (v ++ w) l m′ n′
-put-more v w l m m′ n n′ p h e f =
+put-more v w l m m′ n n′ p h e =
     record {
-      size = omega (arith, length-append v w, p .size);
+      size = omega (arith, length-append v w, p .size, e .size);
       fits = omega (arith, length-append v w);
-      holds = f ∙ ap (λ (x : List ℕ). over (take n x ++ w) x) (p .holds) ∙ over-over v w l n (p .size);
+      holds = e .holds ∙ ap (λ (x : List ℕ). over (take n x ++ w) x) (p .holds) ∙ over-over v w l n (p .size);
     }
 
 pub address-long : (at : ℕ) → length (hexDigits 8 at ++ (58 ∷ 32 ∷ [])) ≡ 10
@@ -108,11 +64,11 @@ unfolding byteText hexDigits
 byte-long byte = refl
 
 -- a whole text that was printed, or that is too long
-pub fitting-written : (w before after : List ℕ) (r : Line) (n : ℕ) → length before ≡ longestText → Lines w before after r → r ≡ Written n → Put (fitting w) before after n
-fitting-written w before after r n l h e = go (leb (length w) longestText) refl (h .answer) (h .holds)
+pub fitting-written : (w before after : List ℕ) (r : Line) (n : ℕ) → length before ≡ longestText → r ≡ lineOf w (length before) → after ≡ lentAfter w before → r ≡ Written n → Put (fitting w) before after n
+fitting-written w before after r n l answer holds e = go (leb (length w) longestText) refl answer holds
   where
     go : (b : Bool) → leb (length w) longestText ≡ b
-        → r ≡ cond b (cond (leb (length w) (length before)) (Written (length w)) NoRoom) Long
+        → r ≡ cond b (cond (leb (length w) (length before)) (Written (length w)) NoRoom) TextTooLong
         → after ≡ cond b (cond (leb (length w) (length before)) (over w before) before) before
         → Put (cond b w longWord) before after n
     go true p q f =
@@ -123,24 +79,24 @@ fitting-written w before after r n l h e = go (leb (length w) longestText) refl 
         record { size = m; fits = few; holds = f ∙ rw g }
     go false p q f = let z : _≡_ {A = ℕ} 0 1 = cc in absurd (omega arith)
 
-pub fitting-long : (w before mid after : List ℕ) (r : Line) (n : ℕ) → length before ≡ longestText → Lines w before mid r → r ≡ Long
-    → n ≡ 0 + length longWord → after ≡ over (take 0 mid ++ longWord) mid → Put (fitting w) before after n
-fitting-long w before mid after r n l h e s f = go (leb (length w) longestText) refl (h .answer) (h .holds)
+pub fitting-long : (w before mid after : List ℕ) (r : Line) (n : ℕ) → length before ≡ longestText → r ≡ lineOf w (length before) → mid ≡ lentAfter w before → r ≡ TextTooLong
+    → Appended 0 longWord mid after n → Put (fitting w) before after n
+fitting-long w before mid after r n l answer holds e f = go (leb (length w) longestText) refl answer holds
   where
     go : (b : Bool) → leb (length w) longestText ≡ b
-        → r ≡ cond b (cond (leb (length w) (length before)) (Written (length w)) NoRoom) Long
+        → r ≡ cond b (cond (leb (length w) (length before)) (Written (length w)) NoRoom) TextTooLong
         → mid ≡ cond b (cond (leb (length w) (length before)) (over w before) before) before
         → Put (cond b w longWord) before after n
     go true p q g =
         let few : length w ≤ length before = omega (arith, leb-true (length w) longestText p) in
         let z : r ≡ Written (length w) = q ∙ rw (le-leb (length w) (length before) few) in
         let z : _≡_ {A = ℕ} 0 1 = cc in absurd (omega arith)
-    go false p q g = put-first longWord before after n (omega arith) s (rw g at f)
+    go false p q g = put-first longWord before after n (omega arith) (rw g at f)
 
-pub fitting-never : (w before after : List ℕ) (r : Line) → length before ≡ longestText → Lines w before after r → r ≡ NoRoom → ⊥
-fitting-never w before after r l h e = go (leb (length w) longestText) refl (h .answer)
+pub fitting-never : (w before : List ℕ) (r : Line) → length before ≡ longestText → r ≡ lineOf w (length before) → r ≡ NoRoom → ⊥
+fitting-never w before r l answer e = go (leb (length w) longestText) refl answer
   where
-    go : (b : Bool) → leb (length w) longestText ≡ b → r ≡ cond b (cond (leb (length w) (length before)) (Written (length w)) NoRoom) Long → ⊥
+    go : (b : Bool) → leb (length w) longestText ≡ b → r ≡ cond b (cond (leb (length w) (length before)) (Written (length w)) NoRoom) TextTooLong → ⊥
     go true p q =
         let few : length w ≤ length before = omega (arith, leb-true (length w) longestText p) in
         let z : r ≡ Written (length w) = q ∙ rw (le-leb (length w) (length before) few) in
