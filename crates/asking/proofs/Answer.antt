@@ -2,7 +2,7 @@
 use Prim.Native.Nat.{ℕ, _-_}
 use mathlib.Core.Bool.{true}
 use mathlib.Core.List.{List}
-use mathlib.Core.Path.{_≡_, sym, ap, _∙_}
+use mathlib.Core.Path.{_≡_}
 use Rattle.format.specs.Description.{Description}
 use Rattle.format.specs.Rules.{hasTable}
 use Rattle.format.specs.Tables.{tableFirst, tableEnd}

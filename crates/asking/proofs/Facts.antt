@@ -8,15 +8,16 @@ use borrow.Author.Tests.{eq-eqb}
 use lib.Dec.{eqb}
 use lib.ListN.{length}
 use Rattle.lists.proofs.Below.{any-at}
-use Rattle.format.specs.Check.{checkOf}
 use Rattle.format.specs.Description.{Description, description}
 use Rattle.format.specs.Rules.{tableAt, hasTable}
 use Rattle.format.specs.Tables.{tableFirst, tableEnd}
-use Rattle.format.specs.declared.Checked.{Checked}
-use Rattle.format.specs.declared.Checked.the-variants.{Good, Fault}
 use Rattle.format.specs.declared.Layout.{Layout}
 use Rattle.format.proofs.Tables.{of-table}
-use Rattle.format.proofs.Formation.{Obeyed, formed, obeyed}
+use Rattle.format.proofs.Formation.{Obeyed, obeyed}
+use Rattle.acceptance.specs.Acceptance.{acceptanceOf, accepting}
+use Rattle.acceptance.specs.declared.Acceptance.{Acceptance}
+use Rattle.acceptance.specs.declared.Acceptance.the-variants as acceptance
+use Rattle.acceptance.proofs.Facts.{accepted-formed}
 use Rattle.patterns.specs.Relations.{weight}
 use Rattle.choice.specs.declared.Choice.{Choice}
 use Rattle.choice.specs.declared.Choice.the-variants as choice
@@ -24,10 +25,10 @@ use Rattle.choosing.specs.Table.{patternFrom, chooseIn}
 use Rattle.choosing.specs.Records.{patternOf, TakenIn, NoneIn}
 use Rattle.choosing.proofs.Records.{taken-in, none-in, in-taken, in-none}
 use Rattle.choosing_facts.proofs.Stays.{stays}
-use Rattle.asking.specs.Asking.{answered, askIn, asked, askOf}
+use Rattle.asking.specs.Asking.{answered, askIn, askOf}
 use Rattle.asking.specs.Facts.{TakenWith}
 use Rattle.asking.specs.declared.Asked.{Asked}
-use Rattle.asking.specs.declared.Asked.the-variants.{Done, Malformed, NoTable, Short, NoMatch, Ambiguous}
+use Rattle.asking.specs.declared.Asked.the-variants.{Done, Rejected, NoTable, Short, NoMatch, Ambiguous}
 
 -- an answer, unless short, stays the same whatever bytes follow
 in-stays : (d : Description) (t c : ℕ) (s m : List ℕ) → (askIn d t c s ≡ Short → ⊥) → askIn d t c (s ++ m) ≡ askIn d t c s
@@ -41,17 +42,18 @@ in-stays d t c s m f = go (hasTable d t) refl
 
 pub ask-stays : (b : List ℕ) (t c : ℕ) (s m : List ℕ) → (askOf b t c s ≡ Short → ⊥) → askOf b t c (s ++ m) ≡ askOf b t c s
 unfolding askOf
-ask-stays b t c s m f = go (checkOf b) refl
+ask-stays b t c s m f = go (acceptanceOf b) refl
   where
-    go : (x : Checked) → checkOf b ≡ x → asked b t c (s ++ m) x ≡ asked b t c s x
-    go (Good l) e = in-stays (description b l) t c s m (λ q. f (rw e q))
-    go (Fault k i) e = refl
+    go : (x : Acceptance) → acceptanceOf b ≡ x
+        → accepting Rejected (λ d. askIn d t c (s ++ m)) b x ≡ accepting Rejected (λ d. askIn d t c s) b x
+    go (acceptance.Accepted l) e = in-stays (description b l) t c s m (λ q. f (rw e q))
+    go (acceptance.Rejected x) e = refl
 
 -- what an answer says of the table, in a description that obeys its rules
 abbrev Told : Description → ℕ → ℕ → List ℕ → Asked → Type 0
 Told d t c s (Done k w) = TakenWith d t c s k w
 Told d t c s (NoMatch u) = NoneIn d t s c
-Told d t c s (Malformed k i) = Unit {0}
+Told d t c s (Rejected x) = Unit {0}
 Told d t c s (NoTable u) = Unit {0}
 Told d t c s Short = Unit {0}
 Told d t c s (Ambiguous u) = Unit {0}
@@ -67,11 +69,11 @@ told d o t c s = go (hasTable d t) (chooseIn d t s c) refl
     go true (choice.Taken j) e = record { taken = taken-in d o t s c j e; weighs = refl }
     go true choice.Ambiguous e = tt
 
--- bytes b that are a well-formed description
-module _ (b : List ℕ) (l : Layout) (good : checkOf b ≡ Good l) (t c : ℕ) (s : List ℕ) where
+-- bytes b that are accepted as a description
+module _ (b : List ℕ) (l : Layout) (good : acceptanceOf b ≡ acceptance.Accepted l) (t c : ℕ) (s : List ℕ) where
   says : Told (description b l) t c s (askOf b t c s)
   unfolding askOf
-  says = rw good (told (description b l) (obeyed b l (formed b l good)) t c s)
+  says = rw good (told (description b l) (obeyed b l (accepted-formed b l good)) t c s)
 
   -- the constructor and weight of a done answer
   pub ask-done : (k w : ℕ) → askOf b t c s ≡ Done k w → TakenWith (description b l) t c s k w
@@ -92,7 +94,7 @@ module _ (b : List ℕ) (l : Layout) (good : checkOf b ≡ Good l) (t c : ℕ) (
   unfolding hasTable patternFrom
   done-ask k r f =
       let d = description b l in
-      let o = obeyed b l (formed b l good) in
+      let o = obeyed b l (accepted-formed b l good) in
       let m = r .is .matching in
       let j = k - tableFirst d t in
       let e : tableFirst d t + j ≡ k = omega (arith, of-table d o t k (m .there) (m .table) .0) in
@@ -104,4 +106,4 @@ module _ (b : List ℕ) (l : Layout) (good : checkOf b ≡ Good l) (t c : ℕ) (
   pub none-ask : hasTable (description b l) t ≡ true → NoneIn (description b l) t s c → (askOf b t c s ≡ Short → ⊥) → askOf b t c s ≡ NoMatch t
   none-ask h r f =
       let d = description b l in
-      by-choice h ∙ ap (answered d t) (in-none d (obeyed b l (formed b l good)) t s c r (λ q. f (by-choice h ∙ ap (answered d t) q)))
+      by-choice h ∙ ap (answered d t) (in-none d (obeyed b l (accepted-formed b l good)) t s c r (λ q. f (by-choice h ∙ ap (answered d t) q)))

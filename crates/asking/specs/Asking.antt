@@ -2,18 +2,16 @@
 use Prim.Native.Nat.{ℕ, _+_}
 use mathlib.Core.Bool.{cond}
 use mathlib.Core.List.{List, [], _∷_}
-use Rattle.format.specs.Check.{checkOf}
-use Rattle.format.specs.Description.{Description, description}
+use Rattle.format.specs.Description.{Description}
 use Rattle.format.specs.Rules.{hasTable}
 use Rattle.format.specs.Tables.{tableFirst}
-use Rattle.format.specs.declared.Checked.{Checked}
-use Rattle.format.specs.declared.Checked.the-variants.{Good, Fault}
+use Rattle.acceptance.specs.Acceptance.{acceptanceOf, accepting, rejectionNumber, rejectionValues}
 use Rattle.patterns.specs.Relations.{weight}
 use Rattle.choice.specs.declared.Choice.{Choice}
 use Rattle.choice.specs.declared.Choice.the-variants as choice
 use Rattle.choosing.specs.Table.{patternFrom, chooseIn}
 use Rattle.asking.specs.declared.Asked.{Asked}
-use Rattle.asking.specs.declared.Asked.the-variants.{Done, Malformed, NoTable, Short, NoMatch, Ambiguous}
+use Rattle.asking.specs.declared.Asked.the-variants.{Done, Rejected, NoTable, Short, NoMatch, Ambiguous}
 
 -- what a choice in table t of d answers; the constructor is its record of section 3
 abbrev pub answered : Description → ℕ → Choice → Asked
@@ -25,18 +23,14 @@ answered d t choice.Ambiguous = Ambiguous t
 unfoldable pub askIn : Description → ℕ → ℕ → List ℕ → Asked
 askIn d t c s = cond (hasTable d t) (answered d t (chooseIn d t s c)) (NoTable t)
 
-abbrev pub asked : List ℕ → ℕ → ℕ → List ℕ → Checked → Asked
-asked b t c s (Good l) = askIn (description b l) t c s
-asked b t c s (Fault k i) = Malformed k i
-
 -- bytes b as the description, table t, context c, bytes s as the code
 unfoldable pub askOf : List ℕ → ℕ → ℕ → List ℕ → Asked
-askOf b t c s = asked b t c s (checkOf b)
+askOf b t c s = accepting Rejected (λ d. askIn d t c s) b (acceptanceOf b)
 
 -- the answer's number in document 01's table ..
 abbrev pub numberOf : Asked → ℕ
 numberOf (Done k w) = 0
-numberOf (Malformed k i) = 1
+numberOf (Rejected x) = rejectionNumber x
 numberOf (NoTable t) = 12
 numberOf Short = 2
 numberOf (NoMatch t) = 3
@@ -45,7 +39,7 @@ numberOf (Ambiguous t) = 4
 -- .. and its values, unused ones 0
 abbrev pub valuesOf : Asked → List ℕ
 valuesOf (Done k w) = k ∷ w ∷ 0 ∷ 0 ∷ []
-valuesOf (Malformed k i) = k ∷ i ∷ 0 ∷ 0 ∷ []
+valuesOf (Rejected x) = rejectionValues x
 valuesOf (NoTable t) = t ∷ 0 ∷ 0 ∷ 0 ∷ []
 valuesOf Short = 0 ∷ 0 ∷ 0 ∷ 0 ∷ []
 valuesOf (NoMatch t) = 0 ∷ t ∷ 0 ∷ 0 ∷ []

@@ -1,6 +1,7 @@
 // Asking one table of any description.
+use acceptance::Acceptance;
+use acceptance::Rejection;
 use choice::Choice;
-use format::Checked;
 use format::Layout;
 use tables::Table;
 ghost use mathlib.Core.Path.{_≡_};
@@ -15,7 +16,7 @@ ghost use Rattle.asking.specs.declared.Asked.{Asked};
 
 pub enum Asked {
     Done { constructor: usize, weight: u32 },
-    Malformed { section: usize, record: usize },
+    Rejected(Rejection),
     NoTable(u32),
     Short,
     NoMatch(u32),
@@ -56,9 +57,9 @@ fn ask_in(desc: &[u8], layout: Layout, t: u32, context: u32, code: &[u8]) -> Ask
 pub fn ask(desc: &[u8], t: u32, context: u32, code: &[u8]) -> Asked
     ensures { λ r. ⌜ r ≡ askOf (now (desc .entry)) t context (now (code .entry)) ⌝ }
 {
-    let checked = description::check(desc);
-    match checked {
-        Checked::Good(layout) => ask_in(desc, layout, t, context, code),
-        Checked::Fault { section, record } => Asked::Malformed { section, record },
+    let acceptance = acceptance::accept(desc);
+    match acceptance {
+        Acceptance::Accepted(layout) => ask_in(desc, layout, t, context, code),
+        Acceptance::Rejected(rejection) => Asked::Rejected(rejection),
     }
 }

@@ -13,6 +13,8 @@ use Rattle.format.specs.declared.Checked.{Checked}
 use Rattle.format.specs.declared.Checked.the-variants as checked
 use Rattle.format.specs.declared.Layout.{Layout}
 use Rattle.format.proofs.Formation.{formed}
+use Rattle.acceptance.specs.Acceptance.{acceptanceOf}
+use Rattle.acceptance.specs.declared.Acceptance.the-variants.{Accepted}
 use Rattle.choice.specs.Clashing.{clashOf}
 use Rattle.choice.specs.declared.Choice.{Choice}
 use Rattle.choice.specs.declared.Choice.the-variants as choice
@@ -21,12 +23,17 @@ use Rattle.choice.specs.declared.Clash.the-variants as clash
 use Rattle.choosing.specs.Table.{patternFrom, chooseIn}
 use Rattle.asking.specs.Asking.{answered, askOf}
 use Rattle.asking.specs.declared.Asked.{Asked}
-use Rattle.asking.specs.declared.Asked.the-variants.{Done, Malformed, NoTable, Short, NoMatch, Ambiguous}
+use Rattle.asking.specs.declared.Asked.the-variants.{Done, Rejected, NoTable, Short, NoMatch, Ambiguous}
 use Rattle.asking.proofs.Facts.{by-choice, ask-stays}
 use Rattle.clashing.specs.Entry.{placed, clashIn, judgedBy, clashAnswer}
 use Rattle.clashing.specs.declared.Judged.the-variants as judged
 use Rattle.clashing.proofs.Facts.{clear-table, short-table}
 use Rattle.clear_facts.specs.Continuing.{AskedApart}
+
+-- a well-formed description is accepted
+good-accepted : (b : List ℕ) (l : Layout) → checkOf b ≡ checked.Good l → acceptanceOf b ≡ Accepted l
+unfolding acceptanceOf
+good-accepted b l e = rw e
 
 -- what "clear" says: the bytes are a description, it has the table, and there no pair clashes
 record Cleared (b : List ℕ) (t : ℕ) : Type 0 where
@@ -55,7 +62,7 @@ cleared b t e = go (checkOf b) refl e
 -- the choice behind an answer
 abbrev chosen : ℕ → Asked → Choice
 chosen first (Done k w) = choice.Taken (k - first)
-chosen first (Malformed k i) = choice.Short
+chosen first (Rejected x) = choice.Short
 chosen first (NoTable u) = choice.Short
 chosen first Short = choice.Short
 chosen first (NoMatch u) = choice.NoMatch
@@ -75,7 +82,7 @@ module _ (b : List ℕ) (t : ℕ) (bytes : (i : ℕ) → getD b i 0 < 256) (clea
   d = description b (table .layout)
 
   choice-of : (s : List ℕ) (r : Asked) → askOf b t c s ≡ r → chooseIn d t s c ≡ chosen (tableFirst d t) r
-  choice-of s r e = sym (chosen-is d t (chooseIn d t s c)) ∙ ap (chosen (tableFirst d t)) (sym (by-choice b (table .layout) (table .good) t c s (table .has)) ∙ e)
+  choice-of s r e = sym (chosen-is d t (chooseIn d t s c)) ∙ ap (chosen (tableFirst d t)) (sym (by-choice b (table .layout) (good-accepted b (table .layout) (table .good)) t c s (table .has)) ∙ e)
 
   fit : Formed b (table .layout)
   fit = formed b (table .layout) (table .good)
@@ -107,7 +114,7 @@ apart-short b t c s w = go (askOf b t c s) refl
 
     go : (r : Asked) → askOf b t c s ≡ r → r ≡ Short
     go (Done k x) e = absurd (stay (λ q. let z : _≡_ {A = ℕ} 0 1 = cc in omega arith))
-    go (Malformed k i) e = absurd (stay (λ q. let z : _≡_ {A = ℕ} 0 1 = cc in omega arith))
+    go (Rejected y) e = absurd (stay (λ q. let z : _≡_ {A = ℕ} 0 1 = cc in omega arith))
     go (NoTable u) e = absurd (stay (λ q. let z : _≡_ {A = ℕ} 0 1 = cc in omega arith))
     go Short e = refl
     go (NoMatch u) e = absurd (stay (λ q. let z : _≡_ {A = ℕ} 0 1 = cc in omega arith))

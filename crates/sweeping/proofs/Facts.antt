@@ -1,13 +1,13 @@
 -- A sweep's rows tile the code; with more numbers lent it begins with the same rows, and so it does over longer code.
-use Prim.Native.Nat.{ℕ, zero, suc, _+_, _-_, _/_, _≤_, _<_}
+use Prim.Native.Nat.{ℕ, zero, suc, _+_, _-_, _*_, _/_, _≤_, _<_}
 use mathlib.Core.Bool.{Bool, true, false, cond}
-use mathlib.Core.List.{List, [], _∷_, _++_, append-nil}
-use mathlib.Core.Path.{_≡_, refl, ap, _∙_}
+use mathlib.Core.List.{List, [], _∷_, _++_, append-assoc, append-nil}
+use mathlib.Core.Path.{_≡_, refl, sym, ap, _∙_}
 use native.Mathlib.Omega.{arith}
 use borrow.Author.Tests.{leb-false}
 use lib.Dec.{leb}
 use lib.IntN.{ℤ}
-use lib.ListN.{length, take, length-append}
+use lib.ListN.{length, take, drop, length-append}
 use lib.Seq.{take-at}
 use Rattle.format.specs.Numbers.{sweepNumbers}
 use Rattle.format.specs.Description.{Description, description}
@@ -18,7 +18,7 @@ use Rattle.acceptance.specs.declared.Acceptance.{Acceptance}
 use Rattle.acceptance.specs.declared.Acceptance.the-variants as acceptance
 use Rattle.acceptance.specs.declared.Acceptance.the-variants.{Accepted}
 use Rattle.acceptance.proofs.Facts.{accepted-formed}
-use Rattle.sweeping.specs.Sweep.{SweepRow, Sweep, joined, endAt, rowAt, rowThen, stepAt, sweepFrom, sweepIn, answerOf, bufferWith, sweepOf, bufferAfter, noRoot}
+use Rattle.sweeping.specs.Sweep.{SweepRow, Sweep, joined, endAt, rowAt, rowThen, stepAt, sweepFrom, numbersOf, sweepIn, answerOf, bufferWith, sweepOf, bufferAfter, noRoot}
 use Rattle.sweeping.specs.Facts.{Tiled, Extends}
 use Rattle.sweeping.specs.declared.End.{End}
 use Rattle.sweeping.specs.declared.End.the-variants as end
@@ -27,7 +27,7 @@ use Rattle.sweeping.specs.declared.Step.the-variants.{Row, Stop}
 use Rattle.sweeping.specs.declared.Swept.{Swept}
 use Rattle.sweeping.specs.declared.Swept.the-variants.{Ended, Rejected}
 use Rattle.sweeping.proofs.Places.{few-records, step-fits, step-stays}
-use Rattle.sweeping.proofs.Turns.{no-room, goes-on}
+use Rattle.sweeping.proofs.Turns.{numbers-length, numbers-append, no-room, goes-on}
 
 module _ (d : Description) (o : Obeyed d) (few : length (d .constructors) ≤ noRoot) (c : ℕ) (s : List ℕ) where
   tile : (room at : ℕ) → at ≤ length s → Tiled d c s at (sweepFrom d c s room at)
@@ -184,13 +184,37 @@ sweep-extends b l e c s m numbers =
     let f = accepted-formed b l e in
     extends-all (description b l) (obeyed b l f) (few-records b l f) c s m numbers
 
--- a sweep that ended "full" stays the same, and so do the lent numbers, whatever code follows
+-- the numbers of the rows of the shorter sweep, in what is lent to the longer one
+same-numbers : (d : Description) (c : ℕ) (t : List ℕ) (room : ℕ) (w w′ : Sweep) (old : List ℤ) → Extends d c t room w w′
+    → take (sweepNumbers * length (w .rows)) (bufferWith (w′ .rows) old) ≡ take (sweepNumbers * length (w .rows)) (bufferWith (w .rows) old)
+same-numbers d c t room w w′ old e =
+    let size = numbers-length (w .rows) in
+    let rest = sweepFrom d c t (room - length (w .rows)) (w .next) .rows in
+    let behind = drop (sweepNumbers * length (w .rows ++ rest)) old in
+    rw (e .whole, numbers-append (w .rows) rest, append-assoc (numbersOf (w .rows)) (numbersOf rest) behind)
+    (take-at (numbersOf (w .rows)) (numbersOf rest ++ behind) (sweepNumbers * length (w .rows)) size
+    ∙ sym (take-at (numbersOf (w .rows)) (drop (sweepNumbers * length (w .rows)) old) (sweepNumbers * length (w .rows)) size))
+
+-- at the entry point: bytes b as the description, the code s and s ++ m, and a sweep over s that ended so
 module _ (b : List ℕ) (c : ℕ) (s m : List ℕ) (old : List ℤ) (n next : ℕ) where
   abbrev answer : List ℕ → Acceptance → Swept
   answer t x = accepting Rejected (λ d. answerOf (sweepIn d c t (length old))) b x
 
   abbrev buffer : List ℕ → Acceptance → List ℤ
   buffer t x = accepting (λ x. old) (λ d. bufferWith (sweepIn d c t (length old) .rows) old) b x
+
+  begin : (why : End) (x : Acceptance) → acceptanceOf b ≡ x → answer s x ≡ Ended why n next
+      → take (sweepNumbers * n) (buffer (s ++ m) x) ≡ take (sweepNumbers * n) (buffer s x)
+  begin why (Accepted l) e q =
+      let count : n ≡ length (sweepIn (description b l) c s (length old) .rows) = cc in
+      rw count (same-numbers _ _ _ _ _ _ old (sweep-extends b l e c s m (length old)))
+  begin why (acceptance.Rejected x) e q = refl
+
+  -- the numbers of its rows are the same whatever code follows
+  pub rows-stay : (why : End) → sweepOf b c s (length old) ≡ Ended why n next
+      → take (sweepNumbers * n) (bufferAfter b c (s ++ m) old) ≡ take (sweepNumbers * n) (bufferAfter b c s old)
+  unfolding sweepOf bufferAfter
+  rows-stay why q = begin why (acceptanceOf b) refl q
 
   stay : (x : Acceptance) → acceptanceOf b ≡ x → answer s x ≡ Ended end.Full n next → (answer (s ++ m) x ≡ answer s x) × (buffer (s ++ m) x ≡ buffer s x)
   stay (Accepted l) e q =
@@ -199,6 +223,7 @@ module _ (b : List ℕ) (c : ℕ) (s m : List ℕ) (old : List ℤ) (n next : �
       (ap answerOf same, ap (λ (w : Sweep). bufferWith (w .rows) old) same)
   stay (acceptance.Rejected x) e q = let z : _≡_ {A = ℕ} 0 1 = cc in absurd (omega arith)
 
+  -- and where it ended "full", its answer and all lent numbers are
   pub full-stays : sweepOf b c s (length old) ≡ Ended end.Full n next
       → (sweepOf b c (s ++ m) (length old) ≡ sweepOf b c s (length old)) × (bufferAfter b c (s ++ m) old ≡ bufferAfter b c s old)
   unfolding sweepOf bufferAfter

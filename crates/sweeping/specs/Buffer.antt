@@ -15,7 +15,7 @@ pub record Outcome (w : Sweep) (r : Swept) (old new : List ℤ) : Type 0 where
   pub answer : r ≡ answerOf w
   pub rows : new ≡ bufferWith (w .rows) old
 
--- of bytes b, which are a well-formed description with these places
+-- of bytes b, which are an accepted description with these places
 abbrev pub OutcomeIn : (b : List ℕ) (l : Layout) (c : ℕ) (s : List ℕ) (old : List ℤ) (r : Swept) (new : List ℤ) → Type 0
 OutcomeIn b l c s old r new = Outcome (sweepIn (description b l) c s (length old)) r old new
 

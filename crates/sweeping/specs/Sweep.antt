@@ -65,10 +65,11 @@ joined rs w = record { rows = rs ++ w .rows; why = w .why; next = w .next }
 abbrev pub endAt : End → ℕ → Sweep
 endAt why at = record { rows = []; why = why; next = at }
 
--- the row of a place, then the rest of the sweep; or its end
+-- "start, length, answer, root constructor"
 abbrev pub rowAt : (at length answer constructor : ℕ) → SweepRow
 rowAt at l a k = record { start = at; length = l; answer = a; constructor = k }
 
+-- the row of a place, then the rest of the sweep; or its end
 abbrev pub rowThen : ℕ → Step → (ℕ → Sweep) → Sweep
 rowThen at (Row l a k) rest = joined (rowAt at l a k ∷ []) (rest (at + l))
 rowThen at Stop rest = endAt end.Short at
@@ -84,7 +85,7 @@ unfoldable pub numbersOf : List SweepRow → List ℤ
 numbersOf [] = []
 numbersOf (r ∷ rs) = pos (r .start) ∷ pos (r .length) ∷ pos (r .answer) ∷ pos (r .constructor) ∷ numbersOf rs
 
--- of a well-formed description, with so many numbers lent
+-- of an accepted description, with so many numbers lent
 unfoldable pub sweepIn : Description → ℕ → List ℕ → ℕ → Sweep
 sweepIn d c s numbers = sweepFrom d c s (numbers / sweepNumbers) 0
 

@@ -5,13 +5,13 @@ use mathlib.Core.List.{List}
 use mathlib.Core.Path.{_≡_, refl, sym, _∙_}
 use native.Mathlib.Decide.{decLt}
 use native.Mathlib.Omega.{arith}
-use Rattle.format.specs.Check.{checkOf}
 use Rattle.format.specs.Description.{Description, description}
 use Rattle.format.specs.Rules.{hasTable}
 use Rattle.format.specs.Tables.{tableFirst, tableEnd}
-use Rattle.format.specs.declared.Checked.{Checked}
-use Rattle.format.specs.declared.Checked.the-variants as checked
 use Rattle.format.specs.declared.Pattern.{Pattern}
+use Rattle.acceptance.specs.Acceptance.{acceptanceOf}
+use Rattle.acceptance.specs.declared.Acceptance.{Acceptance}
+use Rattle.acceptance.specs.declared.Acceptance.the-variants as acceptance
 use Rattle.choosing.specs.Table.{patternFrom}
 use Rattle.trees.specs.Form.{formOf}
 use Rattle.trees.specs.Judged.{bytesOf, Accepts, Rejects, Judged}
@@ -19,7 +19,7 @@ use Rattle.trees.specs.declared.Form.{Form}
 use Rattle.trees.specs.declared.Form.the-variants as form
 use Rattle.trees.specs.declared.Verdict.{Verdict}
 use Rattle.trees.specs.declared.Verdict.the-variants as verdict
-use Rattle.tree_check.specs.Entry.{said, ByForm, ByTable, ByCheck, Answers}
+use Rattle.tree_check.specs.Entry.{said, ByForm, ByTable, ByAcceptance, Answers}
 use Rattle.tree_check.specs.Facts.{Alike}
 use Rattle.tree_check.specs.declared.Answer.{Answer}
 
@@ -50,7 +50,7 @@ module _ (first : ℕ) (at : ℕ → Pattern) (n : ℕ) (b : List ℕ) where
 
 -- two answers that are allowed
 pub answers-alike : (b : List ℕ) (t : ℕ) (tree : List ℕ) (r q : Answer) → Answers b t tree r → Answers b t tree q → Alike r q
-answers-alike b t tree r q = by-check (checkOf b)
+answers-alike b t tree r q = by-acceptance (acceptanceOf b)
   where
     by-form : (d : Description) (first n : ℕ) (f : Form) → ByForm d first n tree f r → ByForm d first n tree f q → Alike r q
     by-form d first n (form.Bad k) x y = rw x y
@@ -61,6 +61,6 @@ answers-alike b t tree r q = by-check (checkOf b)
     by-table d true x y =
         by-form d (tableFirst d t) (tableEnd d t - tableFirst d t) (formOf (tableFirst d t) (tableEnd d t - tableFirst d t) tree) x y
 
-    by-check : (k : Checked) → ByCheck b t tree k r → ByCheck b t tree k q → Alike r q
-    by-check (checked.Fault k i) x y = rw x y
-    by-check (checked.Good l) x y = by-table (description b l) (hasTable (description b l) t) x y
+    by-acceptance : (k : Acceptance) → ByAcceptance b t tree k r → ByAcceptance b t tree k q → Alike r q
+    by-acceptance (acceptance.Rejected k) x y = rw x y
+    by-acceptance (acceptance.Accepted l) x y = by-table (description b l) (hasTable (description b l) t) x y

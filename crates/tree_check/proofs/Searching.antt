@@ -1,8 +1,8 @@
 -- The search over the leaves, step by step.
-use Prim.Native.Nat.{ℕ, _+_, _-_, _<_, _≤_}
-use mathlib.Core.Bool.{Bool, true, false}
+use Prim.Native.Nat.{ℕ, _+_, _-_, _<_}
+use mathlib.Core.Bool.{Bool, false}
 use mathlib.Core.List.{List}
-use mathlib.Core.Path.{_≡_, refl, sym, _∙_}
+use mathlib.Core.Path.{_≡_, sym, _∙_}
 use native.Mathlib.Decide.{decLt, ℕ-discrete}
 use native.Mathlib.Omega.{arith}
 use borrow.Author.Tests.{eq-eqb}
@@ -11,9 +11,8 @@ use Rattle.lists.specs.Below.{anyBelow}
 use Rattle.lists.proofs.Below.{any-more}
 use Rattle.format.specs.declared.Pattern.{Pattern}
 use Rattle.tables.specs.declared.Table.{Table}
-use Rattle.trees.specs.Nodes.{nowhere, countOf, kindAt, placeAt}
+use Rattle.trees.specs.Nodes.{nowhere, kindAt}
 use Rattle.tree_rule.specs.Rule.{refutes, showsWrong}
-use Rattle.tree_leaves.specs.Path.{pathOf}
 use Rattle.tree_check.specs.Search.{ClearLeaf, ClearBefore}
 
 -- what the code tests of record j is the rule: of a leaf that says none the named pattern does not count

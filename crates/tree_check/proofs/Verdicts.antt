@@ -15,7 +15,7 @@ use Rattle.choosing.specs.Table.{patternFrom}
 use Rattle.choice.specs.Sound.{Sound}
 use Rattle.choosing_facts.proofs.None.{none-at}
 use Rattle.clashing.proofs.Facts.{pattern-sound}
-use Rattle.trees.specs.Nodes.{countOf, kindAt, placeAt}
+use Rattle.trees.specs.Nodes.{countOf, placeAt}
 use Rattle.trees.specs.Judged.{Accepts, Rejects}
 use Rattle.tree_rule.specs.Rule.{exampleWord, exampleContext}
 use Rattle.tree_leaves.specs.Path.{pathOf}

@@ -3,7 +3,6 @@ use Prim.Native.Nat.{ℕ, _+_, _<_, _≤_}
 use mathlib.Core.Bool.{true, false}
 use mathlib.Core.List.{List}
 use mathlib.Core.Path.{_≡_}
-use lib.ListN.{length}
 use Rattle.lists.specs.Below.{anyBelow}
 use Rattle.format.specs.Numbers.{mostConstructors}
 use Rattle.format.specs.Layout.{Room}

@@ -1,5 +1,6 @@
 // The check of a decision tree proposed for a table: its form, then its leaves by the rule on patterns.
-use format::Checked;
+use acceptance::Acceptance;
+use acceptance::Rejection;
 use format::Layout;
 use format::Pattern;
 use tables::Table;
@@ -24,15 +25,12 @@ ghost use Rattle.tree_check.specs.Entry.{ForRecords, ForTable, Answers};
 // that prove it wrong; or what document 01 refuses.
 pub enum Answer {
     Accepted,
-    Rejected {
+    WrongLeaf {
         node: usize,
         word: u64,
         context: u32,
     },
-    Malformed {
-        section: usize,
-        record: usize,
-    },
+    Rejected(Rejection),
     NoTable(u32),
     BadTree(usize),
 }
@@ -184,7 +182,7 @@ fn tree_for(desc: &[u8], layout: Layout, table: Table, tree: &[u8]) -> Answer
                     node,
                     word,
                     context,
-                } => Answer::Rejected {
+                } => Answer::WrongLeaf {
                     node,
                     word,
                     context,
@@ -209,9 +207,9 @@ fn tree_in(desc: &[u8], layout: Layout, t: u32, tree: &[u8]) -> Answer
 pub fn tree_check(desc: &[u8], t: u32, tree: &[u8]) -> Answer
     ensures { λ r. ⌜ Answers (now (desc .entry)) t (now (tree .entry)) r ⌝ }
 {
-    let checked = description::check(desc);
-    match checked {
-        Checked::Good(layout) => tree_in(desc, layout, t, tree),
-        Checked::Fault { section, record } => Answer::Malformed { section, record },
+    let acceptance = acceptance::accept(desc);
+    match acceptance {
+        Acceptance::Accepted(layout) => tree_in(desc, layout, t, tree),
+        Acceptance::Rejected(rejection) => Answer::Rejected(rejection),
     }
 }
