@@ -21,7 +21,6 @@ use Rattle.setting.proofs.Laws.{fixed-of, setting-of, fixed-for, setting-for}
 use Rattle.walking.specs.Scratch.{scratchLength, sizedOf, written}
 use Rattle.walking.specs.Walks.{instructionAs, resultAt, toldLength}
 use Rattle.walking.specs.declared.Instruction.{Instruction}
-use Rattle.walking.specs.declared.Walked.{Walked}
 use Rattle.walking.specs.declared.Walked.the-variants as walked
 use Rattle.text.specs.Text.{textOf}
 use Rattle.text.specs.Places.{textAt, Sound}

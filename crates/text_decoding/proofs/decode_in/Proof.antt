@@ -1,7 +1,7 @@
 -- `text_decoding::decode_in` meets its contract. Assumes nothing.
 use Prim.Native.Nat.{ℕ}
 use mathlib.Core.List.{List}
-use mathlib.Core.Path.{_≡_, sym, ap, _∙_}
+use mathlib.Core.Path.{sym, ap, _∙_}
 use native.Mathlib.Omega.{arith}
 use Rattle.format.specs.Description.{description}
 use Rattle.text_decoding.specs.TextDecoding.{lineAnswer}
@@ -10,11 +10,6 @@ use Rattle.text_decoding.proofs.Answers.{Answers, filled, told-fixed, s
 use borrow.Author.Needs.{needs}
 use Rattle.text_decoding.proofs.decode_in.Statement.{statement}
 use Rattle.text_decoding.proofs.decode_in.Tie as tie
-use Rattle.text_decoding.proofs.decode_in.Reads as reads
-use Rattle.text_decoding.proofs.decode_in.Lts as lts
-use Rattle.setting.proofs.fill.Reads as fill-reads
-use Rattle.text.proofs.print_text.Reads as print-text-reads
-use Rattle.walking.proofs.decode_at.Reads as decode-at-reads
 
 fill-requires : tie.Need-fill-requires
 fill-requires c κs = search needs
@@ -50,9 +45,12 @@ AnswersAt start new r =
 -- the text is printed
 printed : (c : tie.After-print-text) → AnswersAt (c .before .before .before .before .before .before .before .before .before .before .before .before .before .before) (c .print-text .last .1 .1 .1 .1 .0) (lineAnswer (c .print-text .result))
 printed c =
+    let formed = c .before .before .before .before .before .before .before .before .before .before .before .before .before .before .pre in
+    let fills = c .before .before .before .before .before .before .before .before .before .before .fill .ensures in
     let decodes = c .before .before .before .before .before .before .before .before .decode-at .ensures in
+    let done = c .before .before .before .before .before .walked2 .given .1 in
     let prints = c .print-text .ensures in
-    line-answers _ _ (c .before .before .before .before .before .before .before .before .before .before .before .before .before .before .pre) _ (c .before .before .before .before .before .before .before .before .before .before .fill .ensures) _ _ _ (decodes .0) _ _ (c .before .before .before .before .before .walked2 .given .1) _ (decodes .1) _ _ _ (prints .0) (prints .1)
+    line-answers _ _ formed _ fills _ _ _ (decodes .0) _ _ done _ (decodes .1) _ _ _ (prints .0) (prints .1)
 
 enum-known-line : tie.Need-enum-known-line
 enum-known-line c = search needs
@@ -66,7 +64,9 @@ enum-told-2 c = search needs
 returns : tie.Need-returns
 returns c =
     let start = c .before .before .before .before .before .before .before .before .before .before in
-    refusal-answers _ _ (start .pre) _ (c .before .before .before .before .before .before .fill .ensures) _ _ _ (c .before .before .before .before .decode-at .ensures .0) (start .args .out .now) _ (c .before .walked .given .1)
+    let fills = c .before .before .before .before .before .before .fill .ensures in
+    let decodes = c .before .before .before .before .decode-at .ensures in
+    refusal-answers _ _ (start .pre) _ fills _ _ _ (decodes .0) (start .args .out .now) _ (c .before .walked .given .1)
 
 same-length : tie.Need-same-length
 same-length c = search needs

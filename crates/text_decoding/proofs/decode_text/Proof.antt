@@ -5,10 +5,6 @@ use Rattle.text_decoding.specs.TextDecoding.{decodeTextOf, textAfter}
 use borrow.Author.Needs.{needs}
 use Rattle.text_decoding.proofs.decode_text.Statement.{statement}
 use Rattle.text_decoding.proofs.decode_text.Tie as tie
-use Rattle.text_decoding.proofs.decode_text.Reads as reads
-use Rattle.text_decoding.proofs.decode_text.Lts as lts
-use Rattle.acceptance.proofs.accept.Reads as accept-reads
-use Rattle.text_decoding.proofs.decode_in.Reads as decode-in-reads
 
 accept-requires : tie.Need-accept-requires
 accept-requires c κs = search needs
