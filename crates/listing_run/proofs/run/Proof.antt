@@ -1,3 +1,12 @@
+-- `listing_run::run` ends: each part of the listing moves on. Assumes the contracts of the system's reading and writing.
+use Prim.Native.Nat.{_-_}
+use mathlib.Core.Path.{_≡_, refl, sym, _∙_}
+use native.Mathlib.Omega.{arith}
+use borrow.Author.Needs.{needs}
+use lib.ListN.{length}
+use lib.Seq.{length-take-le}
+use Rattle.listing_text.specs.Runs.{endOf}
+use Rattle.listing_run.proofs.Parts.{bytes-there, nearer}
 use Rattle.listing_run.proofs.run.Statement.{statement}
 use Rattle.listing_run.proofs.run.Tie as tie
 use Rattle.listing_run.proofs.run.Reads as reads
@@ -7,62 +16,49 @@ use Rattle.io.proofs.write_all.Reads as write-all-reads
 use Rattle.listing_text.proofs.list_input.Reads as list-input-reads
 
 abbrev Inv-loop : tie.InvT-loop
-Inv-loop n all text₀ at₀ text at = ?
+Inv-loop n all text₀ at₀ text at = length text ≡ 4096
 
 abbrev μ-loop : tie.MeasureT-loop
-μ-loop n all text₀ at₀ text at = ?
+μ-loop n all text₀ at₀ text at = endOf all - at
 
--- src/lib.rt:11:41
 slice-aggregate-read-full : tie.Need-slice-aggregate-read-full Inv-loop μ-loop
-slice-aggregate-read-full c = ?
+slice-aggregate-read-full c = search needs
 
--- src/lib.rt:11:9
 read-full-requires : tie.Need-read-full-requires Inv-loop μ-loop
-read-full-requires c κs = ?
+read-full-requires c κs = search needs
 
--- src/lib.rt:12:15
 array-share-prefix-input : tie.Need-array-share-prefix-input Inv-loop μ-loop
-array-share-prefix-input c = ?
+array-share-prefix-input c = search needs
 
--- src/lib.rt:12:9
 slice-aggregate-all : tie.Need-slice-aggregate-all Inv-loop μ-loop
-slice-aggregate-all c = ?
+slice-aggregate-all c = search needs
 
--- src/lib.rt:15:5
 loop-holds : tie.Need-loop-holds Inv-loop μ-loop
-loop-holds c = ?
+loop-holds c = refl
 
--- src/lib.rt:16:54
 slice-aggregate-list-input : tie.Need-slice-aggregate-list-input Inv-loop μ-loop
-slice-aggregate-list-input c = ?
+slice-aggregate-list-input c = sym (c .before .loop .inv)
 
--- src/lib.rt:16:13
 list-input-requires : tie.Need-list-input-requires Inv-loop μ-loop
-list-input-requires c κs = ?
+list-input-requires c κs = search needs
 
--- src/lib.rt:18:38
 array-share-prefix-text : tie.Need-array-share-prefix-text Inv-loop μ-loop
-array-share-prefix-text c = ?
+array-share-prefix-text c = bytes-there _ (c .before .before .before .loop .at) (c .before .before .before .loop .text) _ (c .before .list-input .ensures .0) _ (c .before .list-input .ensures .1)
 
--- src/lib.rt:18:38
 slice-aggregate-write-all : tie.Need-slice-aggregate-write-all Inv-loop μ-loop
-slice-aggregate-write-all c = ?
+slice-aggregate-write-all c = sym (length-take-le _ _ (bytes-there _ (c .before .before .before .before .loop .at) (c .before .before .before .before .loop .text) _ (c .before .before .list-input .ensures .0) _ (c .before .before .list-input .ensures .1)))
 
--- src/lib.rt:18:9
 write-all-requires : tie.Need-write-all-requires Inv-loop μ-loop
-write-all-requires c κs = ?
+write-all-requires c κs = search needs
 
--- src/lib.rt:15:5
 loop-less : tie.Need-loop-less Inv-loop μ-loop
-loop-less c = ?
+loop-less c = nearer _ (c .before .before .before .before .before .before .loop .at) (c .before .before .before .before .before .before .loop .text) _ (c .before .before .before .before .list-input .ensures .0) (omega (arith, c .before .before .before .before .before .before .loop .inv)) (c .if1 .taken)
 
--- src/lib.rt:15:5
 loop-again : tie.Need-loop-again Inv-loop μ-loop
-loop-again c = ?
+loop-again c = c .before .before .before .before .list-input .kept .1 .1 .0 ∙ c .before .before .before .before .before .before .loop .inv
 
--- src/lib.rt:22:13
 returns : tie.Need-returns Inv-loop μ-loop
-returns c = ?
+returns c = search needs
 
 pub run-spec : {M : Type 1} → statement M
 run-spec =

@@ -28,7 +28,7 @@ same-length c = search needs
 
 returns : tie.Need-returns
 unfolding listOf listAfter
-returns c = 
+returns c =
     let e = sym (c .before .before .before .before .before .before .before .accept .ensures) ∙ c .before .before .before .before .before .acceptance .given .1 in
     (rw e (ap Done (c .before .before .list-in .ensures .answer)), rw e (c .before .before .list-in .ensures .text))
 

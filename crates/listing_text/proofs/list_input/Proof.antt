@@ -56,7 +56,7 @@ same-length c = search needs
 
 returns : tie.Need-returns
 unfolding inputWindow
-returns c = 
+returns c =
     let start = c .before .before .before .before .before .before .before .before .before .before .before .before .before in
     let split = c .before .before .before .before .before .before .before .before .before .before .take-apart .ensures in
     let b = description-there (start .args .input .now) _ split in
@@ -70,7 +70,7 @@ same-length-2 c = search needs
 
 returns-2 : tie.Need-returns-2
 unfolding inputWindow
-returns-2 c = 
+returns-2 c =
     let start = c .before .before .before .before .before .before .before .before .before .before .before .before .before in
     let b = description-there (start .args .input .now) _ (c .before .before .before .before .before .before .before .before .before .before .take-apart .ensures) in
     let e = rw b at (sym (c .before .before .before .before .before .before .before .accept .ensures) ∙ c .before .before .before .before .before .acceptance2 .given .1) in

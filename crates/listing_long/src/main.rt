@@ -1,0 +1,4 @@
+// The listing program, on a text of 400 bytes.
+fn main() {
+    listing_run::run();
+}
