@@ -7,5 +7,6 @@ pub mod Rows
 pub mod InBounds
 pub mod Shapes
 pub mod Refusals
+pub mod Choices
 pub mod Deep
 pub mod Entries

@@ -2,3 +2,4 @@
 pub mod Usable
 pub mod Relation
 pub mod Facts
+pub mod Demand

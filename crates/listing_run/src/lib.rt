@@ -11,15 +11,11 @@ pub fn run() {
     let n = io::read_full(STDIN_FILENO, &mut input);
     let all = &input[..n];
     let mut text = [0u8; TEXT];
-    let mut at = 0;
-    loop {
-        let part = listing_text::list_input(all, at, &mut text);
-        let bytes = part.bytes;
+    let mut part = listing_text::first_part();
+    while part.full {
+        let next = listing_text::list_input(all, part.next, &mut text);
+        let bytes = next.bytes;
         io::write_all(STDOUT_FILENO, &text[..bytes]);
-        if part.full {
-            at = part.next;
-        } else {
-            return;
-        }
+        part = next;
     }
 }

@@ -3,12 +3,13 @@ use acceptance::Acceptance;
 use acceptance::Rejection;
 use format::Layout;
 use printing::Printed;
+ghost use mathlib.Core.Bool.{true};
 ghost use mathlib.Core.Path.{_≡_};
 ghost use Prim.Native.Nat.{_+_, _≤_, min};
 ghost use lib.ListN.{length};
 ghost use Rattle.format.specs.Check.{Formed};
 ghost use Rattle.format.specs.Description.{description};
-ghost use Rattle.listing_text.specs.Listing.{splitOf, windowOf, faultWindow, partOf, inputWindow, listOf, listAfter};
+ghost use Rattle.listing_text.specs.Listing.{splitOf, noLines, windowOf, faultWindow, partOf, inputWindow, listOf, listAfter};
 ghost use Rattle.printing.specs.Writing.{over};
 ghost use Rattle.listing_text.specs.Windows.{Lists};
 
@@ -159,6 +160,18 @@ fn list_fault(rejection: Rejection, from: usize, out: &mut [u8]) -> Part
         lines: 0,
         next: from,
         full: false,
+    }
+}
+
+// Nothing is listed yet.
+pub fn first_part() -> Part
+    ensures { λ r. ⌜ r ≡ partOf (noLines 0 true) ⌝ }
+{
+    Part {
+        bytes: 0,
+        lines: 0,
+        next: 0,
+        full: true,
     }
 }
 

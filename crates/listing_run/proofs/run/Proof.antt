@@ -1,25 +1,24 @@
 -- `listing_run::run` ends: each part of the listing moves on. Assumes the contracts of the system's reading and writing.
-use Prim.Native.Nat.{_-_}
 use mathlib.Core.Path.{_≡_, refl, sym, _∙_}
 use native.Mathlib.Omega.{arith}
 use borrow.Author.Needs.{needs}
 use lib.ListN.{length}
 use lib.Seq.{length-take-le}
-use Rattle.listing_text.specs.Runs.{endOf}
-use Rattle.listing_run.proofs.Parts.{bytes-there, nearer}
+use Rattle.listing_run.proofs.Parts.{left, bytes-there, falls}
 use Rattle.listing_run.proofs.run.Statement.{statement}
 use Rattle.listing_run.proofs.run.Tie as tie
 use Rattle.listing_run.proofs.run.Reads as reads
 use Rattle.listing_run.proofs.run.Lts as lts
 use Rattle.io.proofs.read_full.Reads as read-full-reads
 use Rattle.io.proofs.write_all.Reads as write-all-reads
+use Rattle.listing_text.proofs.first_part.Reads as first-part-reads
 use Rattle.listing_text.proofs.list_input.Reads as list-input-reads
 
 abbrev Inv-loop : tie.InvT-loop
-Inv-loop n all text₀ at₀ text at = length text ≡ 4096
+Inv-loop n all text₀ part₀ text part = length text ≡ 4096
 
 abbrev μ-loop : tie.MeasureT-loop
-μ-loop n all text₀ at₀ text at = endOf all - at
+μ-loop n all text₀ part₀ text part = left all part
 
 slice-aggregate-read-full : tie.Need-slice-aggregate-read-full Inv-loop μ-loop
 slice-aggregate-read-full c = search needs
@@ -33,29 +32,32 @@ array-share-prefix-input c = search needs
 slice-aggregate-all : tie.Need-slice-aggregate-all Inv-loop μ-loop
 slice-aggregate-all c = search needs
 
+first-part-requires : tie.Need-first-part-requires Inv-loop μ-loop
+first-part-requires c κs = search needs
+
 loop-holds : tie.Need-loop-holds Inv-loop μ-loop
 loop-holds c = refl
 
 slice-aggregate-list-input : tie.Need-slice-aggregate-list-input Inv-loop μ-loop
-slice-aggregate-list-input c = sym (c .before .loop .inv)
+slice-aggregate-list-input c = sym (c .before .before .loop .inv)
 
 list-input-requires : tie.Need-list-input-requires Inv-loop μ-loop
 list-input-requires c κs = search needs
 
 array-share-prefix-text : tie.Need-array-share-prefix-text Inv-loop μ-loop
-array-share-prefix-text c = bytes-there _ (c .before .before .before .loop .at) (c .before .before .before .loop .text) _ (c .before .list-input .ensures .0) _ (c .before .list-input .ensures .1)
+array-share-prefix-text c = bytes-there _ (c .before .before .before .before .loop .part .next) (c .before .before .before .before .loop .text) _ (c .before .list-input .ensures .0) _ (c .before .list-input .ensures .1)
 
 slice-aggregate-write-all : tie.Need-slice-aggregate-write-all Inv-loop μ-loop
-slice-aggregate-write-all c = sym (length-take-le _ _ (bytes-there _ (c .before .before .before .before .loop .at) (c .before .before .before .before .loop .text) _ (c .before .before .list-input .ensures .0) _ (c .before .before .list-input .ensures .1)))
+slice-aggregate-write-all c = sym (length-take-le _ _ (bytes-there _ (c .before .before .before .before .before .loop .part .next) (c .before .before .before .before .before .loop .text) _ (c .before .before .list-input .ensures .0) _ (c .before .before .list-input .ensures .1)))
 
 write-all-requires : tie.Need-write-all-requires Inv-loop μ-loop
 write-all-requires c κs = search needs
 
 loop-less : tie.Need-loop-less Inv-loop μ-loop
-loop-less c = nearer _ (c .before .before .before .before .before .before .loop .at) (c .before .before .before .before .before .before .loop .text) _ (c .before .before .before .before .list-input .ensures .0) (omega (arith, c .before .before .before .before .before .before .loop .inv)) (c .if1 .taken)
+loop-less c = falls _ (c .before .before .before .before .before .before .loop .part .next) (c .before .before .before .before .before .before .loop .text) _ (c .before .before .before .list-input .ensures .0) (c .before .before .before .before .before .before .loop .part) (c .before .before .before .before .before .loop-test .taken) refl (omega (arith, c .before .before .before .before .before .before .loop .inv))
 
 loop-again : tie.Need-loop-again Inv-loop μ-loop
-loop-again c = c .before .before .before .before .list-input .kept .1 .1 .0 ∙ c .before .before .before .before .before .before .loop .inv
+loop-again c = c .before .before .before .list-input .kept .1 .1 .0 ∙ c .before .before .before .before .before .before .loop .inv
 
 returns : tie.Need-returns Inv-loop μ-loop
 returns c = search needs
@@ -70,6 +72,7 @@ run-spec =
     read-full-requires
     array-share-prefix-input
     slice-aggregate-all
+    first-part-requires
     loop-holds
     slice-aggregate-list-input
     list-input-requires
