@@ -42,7 +42,7 @@ enum dookerand_row {
     DOOKERAND_ROW_NAME = 2
 };
 
-/* How a sweep ends. */
+/* How a sweep ends; a listing ends with one of the first two. */
 enum dookerand_end {
     DOOKERAND_END_USED = 0,
     DOOKERAND_END_FULL = 1,
@@ -53,9 +53,11 @@ enum dookerand_end {
 #define DOOKERAND_VALUES 4
 #define DOOKERAND_ROW_NUMBERS 4
 
-/* What always suffices: numbers for the rows of dookerand_decode, bytes for the text of dookerand_text. */
+/* What always suffices: numbers for the rows of dookerand_decode, bytes for the text of dookerand_text and for a line of
+ * dookerand_list (8 + 2 + 256 + 1). */
 #define DOOKERAND_DECODE_ROOM 128
 #define DOOKERAND_TEXT_ROOM 256
+#define DOOKERAND_LINE_ROOM 267
 
 /* Stands for no record (the whole section), no constructor (a gap of a sweep, a leaf of a tree) and no single node. */
 #define DOOKERAND_NONE 65535
@@ -99,6 +101,16 @@ uint32_t dookerand_text(const uint8_t *description, size_t description_len, uint
  * 2 where the next instruction is short, tested in this order. 1: section, record, and nothing is written. */
 uint32_t dookerand_sweep(const uint8_t *description, size_t description_len, uint32_t context, const uint8_t *code,
                          size_t code_len, int64_t *rows, size_t rows_len, uint64_t values[4]);
+
+/* Lists the code from byte `from` on as lines: the place as eight lower-case hex digits, ": ", then the instruction's
+ * text, ".long" for a text of more than 256 bytes, ".short" for an instruction that is cut off by the code's end, after
+ * which nothing follows, or ".byte 0x" and two digits for a byte that answers 3 to 8 are given for; and a line feed.
+ * `text_len` counts bytes, 267 always suffice for a line, and `text` overlaps no other slice. As many whole lines are
+ * written as fit, from text[0] on, and nothing behind them. 0: bytes written, lines written, next place, end; the end
+ * is 1 where the line at the next place does not fit, and 0 where no line is left: then the next place is the code's
+ * length, or `from` where that is not below it. 1: section, record, and nothing is written. */
+uint32_t dookerand_list(const uint8_t *description, size_t description_len, uint32_t context, const uint8_t *code,
+                        size_t code_len, uint64_t from, uint8_t *text, size_t text_len, uint64_t values[4]);
 
 #ifdef __cplusplus
 }

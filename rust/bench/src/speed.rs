@@ -3,6 +3,7 @@
 use std::cell::RefCell;
 use std::hint::black_box;
 
+use dookerand::Listing;
 use generate::bytes;
 
 use crate::clock::{median, Time};
@@ -24,6 +25,8 @@ const CONTEXT: u32 = 0;
 
 const ROW_NUMBERS: usize = 4;
 const TEXT: usize = 256;
+/// Bytes that are lent to the listing.
+const LINES: usize = 64 * 1024;
 
 pub fn print() {
     let d = avr_description();
@@ -58,6 +61,26 @@ pub fn print() {
             black_box(&text);
         }
     };
+    let lines = |_| {
+        let mut text = [0; LINES];
+        let (mut next, mut full, mut listed) = (0, true, 0);
+        while full {
+            let bytes = black_box(&description);
+            let part = dookerand::list(bytes, CONTEXT, black_box(&code), next, &mut text);
+            let Listing::Listed {
+                lines,
+                next: behind,
+                full: more,
+                ..
+            } = black_box(part)
+            else {
+                panic!("it is well formed");
+            };
+            black_box(&text);
+            (next, full, listed) = (behind, more, listed + lines);
+        }
+        assert_eq!(listed, instructions);
+    };
     let checks = |_| {
         for _ in 0..instructions / CHECKS {
             let answer = dookerand::check(black_box(&description));
@@ -71,7 +94,14 @@ pub fn print() {
     ];
     let found = || others.iter().flatten();
     let run: Vec<_> = found().map(|program| |_| program.run()).collect();
-    let mut jobs: Vec<Job> = vec![&sweep, &reference_sweep, &scan_sweep, &texts, &checks];
+    let mut jobs: Vec<Job> = vec![
+        &sweep,
+        &reference_sweep,
+        &scan_sweep,
+        &lines,
+        &texts,
+        &checks,
+    ];
     jobs.extend(run.iter().map(|run| run as Job));
     let times = rounds_of(ROUNDS, 1, &jobs);
     let times: Vec<Time> = times.iter().map(|times| median(times)).collect();
@@ -85,11 +115,13 @@ pub fn print() {
     line("proved sweep", times[0], "rows");
     line("reference sweep", times[1], "rows");
     line("scan sweep, by fours", times[2], "rows");
+    let by_parts = format!("lines, in parts of up to {LINES} bytes");
+    line("proved list", times[3], &by_parts);
     let by_calls = "rows, then each text by a call, which checks the description";
-    line("proved sweep and texts", times[3], by_calls);
-    let without_checks = times[3] - times[4].times(CHECKS);
+    line("proved sweep and texts", times[4], by_calls);
+    let without_checks = times[4] - times[5].times(CHECKS);
     line("  without those checks", without_checks, "the same");
-    for (program, &time) in found().zip(&times[5..]) {
+    for (program, &time) in found().zip(&times[6..]) {
         line(program.name, time, &program.writes);
     }
     for why in others.iter().filter_map(|other| other.as_ref().err()) {

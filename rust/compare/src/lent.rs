@@ -15,9 +15,6 @@ pub struct Given<'a> {
     pub code: &'a [u8],
 }
 
-/// Description, context, code and what is lent.
-type Request<T, A> = fn(&[u8], u32, &[u8], &mut [T]) -> A;
-
 /// What may be lent.
 pub trait Element: Copy + Debug + PartialEq {
     /// What an element is before a call: neighbours differ, and no request
@@ -39,12 +36,13 @@ impl Element for u8 {
 
 /// The number and values that both gave, with the lent elements. Compares all
 /// elements afterwards: those written, the lent ones behind them, and those
-/// around that are not lent.
+/// around that are not lent. The requests take a description, a context, code
+/// and what is lent.
 pub fn agreed_with_lent<T: Element>(
     given: &Given,
     lent: usize,
-    reference: Request<T, reference::Answer>,
-    library: Request<T, dookerand::Answer>,
+    reference: impl Fn(&[u8], u32, &[u8], &mut [T]) -> reference::Answer,
+    library: impl Fn(&[u8], u32, &[u8], &mut [T]) -> dookerand::Answer,
 ) -> (u32, [u64; 4], Vec<T>) {
     let &Given {
         kind,

@@ -29,7 +29,8 @@ const NO_LINES: usize = 2;
 const MALFORMED: usize = 3;
 
 /// What lines may show.
-const LINES: [&str; 4] = ["an instruction", ".byte", ".long", ".short"];
+pub const LINES: [&str; 4] = ["an instruction", ".byte", ".long", ".short"];
+const SHORT_LINE: usize = 3;
 
 /// The fewest runs of each column and for faults of each section; the fewest
 /// lines of each sort.
@@ -133,15 +134,9 @@ impl Runs<'_> {
         }
         let mut column = NO_LINES;
         for line in listed.lines() {
-            let (_, shown) = line.split_once(": ").expect("a place");
-            let (sort, of_line) = match shown {
-                ".short" => (3, SHORT),
-                ".long" => (2, LISTED),
-                _ if shown.starts_with(".byte 0x") => (1, LISTED),
-                _ => (0, LISTED),
-            };
+            let sort = sort_of_line(line);
             self.lines[sort] += 1;
-            column = of_line;
+            column = if sort == SHORT_LINE { SHORT } else { LISTED };
         }
         column
     }
@@ -348,6 +343,17 @@ impl Runs<'_> {
             let code = self.any_bytes(length);
             self.listed(&description, &code);
         }
+    }
+}
+
+/// Which of [`LINES`] a line is.
+pub fn sort_of_line(line: &str) -> usize {
+    let (_, shown) = line.split_once(": ").expect("a place");
+    match shown {
+        ".short" => SHORT_LINE,
+        ".long" => 2,
+        _ if shown.starts_with(".byte 0x") => 1,
+        _ => 0,
     }
 }
 

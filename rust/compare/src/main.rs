@@ -9,6 +9,7 @@ mod choosing;
 mod decoding;
 mod instructions;
 mod lent;
+mod lines;
 mod listing;
 mod sweep;
 mod tally;
@@ -39,6 +40,7 @@ fn main() {
     timed("decode", || decoding::compare(&mut Rng::new(seed)));
     timed("text", || text::compare(&mut Rng::new(seed)));
     timed("sweep", || sweep::compare(&mut Rng::new(seed)));
+    timed("list", || lines::compare(&mut Rng::new(seed)));
     timed("AVR", avr::compare);
     timed("listing", || {
         listing::compare(&mut Rng::new(seed), &program)

@@ -2,12 +2,14 @@
 
 mod choosing;
 mod decoding;
+mod listing;
 mod sweep;
 mod text;
 mod trees;
 
 pub use choosing::{ask, clash};
 pub use decoding::decode;
+pub use listing::{list, list_answer, Listing, LINE};
 pub use sweep::sweep;
 pub use text::text;
 pub use trees::tree;

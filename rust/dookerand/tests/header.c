@@ -33,7 +33,8 @@ static void print_constants(void)
         printf(" %d", answers[i]);
     printf("\nrows %d %d %d\n", DOOKERAND_ROW_CONSTRUCTOR, DOOKERAND_ROW_FIELD, DOOKERAND_ROW_NAME);
     printf("ends %d %d %d\n", DOOKERAND_END_USED, DOOKERAND_END_FULL, DOOKERAND_END_SHORT);
-    printf("room %d %d %d %d\n", DOOKERAND_VALUES, DOOKERAND_ROW_NUMBERS, DOOKERAND_DECODE_ROOM, DOOKERAND_TEXT_ROOM);
+    printf("room %d %d %d %d %d\n", DOOKERAND_VALUES, DOOKERAND_ROW_NUMBERS, DOOKERAND_DECODE_ROOM,
+           DOOKERAND_TEXT_ROOM, DOOKERAND_LINE_ROOM);
     printf("none %d\n", DOOKERAND_NONE);
 }
 
@@ -43,6 +44,7 @@ int main(int argc, char **argv)
     const uint8_t tree[] = { 1, 0, 0, 0, 0, 0 };
     int64_t rows[20] = { 0 };
     uint8_t text[16] = "................";
+    uint8_t lines[24] = "........................";
     uint64_t values[DOOKERAND_VALUES];
     size_t length;
     FILE *file = argc == 2 ? fopen(argv[1], "rb") : NULL;
@@ -62,5 +64,7 @@ int main(int argc, char **argv)
     printf("%.16s\n", (const char *) text);
     print("sweep", dookerand_sweep(description, length, 0, code, sizeof code, rows, 20, values), values);
     print_rows(rows, 20);
+    print("list", dookerand_list(description, length, 0, code, sizeof code, 0, lines, sizeof lines, values), values);
+    printf("%.24s\n", (const char *) lines);
     return 0;
 }

@@ -21,7 +21,7 @@ const CONSTANTS: &str = "\
 answers 0 1 2 3 4 5 6 7 8 9 10 11 12
 rows 0 1 2
 ends 0 1 2
-room 4 4 128 256
+room 4 4 128 256 267
 none 65535
 ";
 
@@ -78,7 +78,12 @@ fn expected(description: &[u8]) -> String {
         dookerand::sweep(description, 0, &CODE, &mut rows),
     );
     numbers(&mut out, &rows);
+    let mut lines = [b'.'; 24];
+    let listed = dookerand::list_answer(description, 0, &CODE, 0, &mut lines);
+    line(&mut out, "list", listed);
+    writeln!(out, "{}", std::str::from_utf8(&lines).unwrap()).unwrap();
     assert!(out.contains("add r5, -0x2....\n"), "{out}");
+    assert!(out.contains("00000000: add r5, -0x2\n.\n"), "{out}");
     out
 }
 

@@ -5,7 +5,7 @@
 mod nested;
 mod painted;
 
-use dookerand::Answer;
+use dookerand::{Answer, LINE};
 use generate::{bytes, deep_tree, longest, tree_bytes, Rng};
 
 use nested::{nested, Inner};
@@ -28,7 +28,12 @@ const DEEPEST: usize = 33;
 /// Bytes of stack that a request on a description uses.
 type Request = fn(&[u8]) -> usize;
 
-const REQUESTS: [(&str, Request); 3] = [("decode", decode), ("text", text), ("sweep", sweep)];
+const REQUESTS: [(&str, Request); 4] = [
+    ("decode", decode),
+    ("text", text),
+    ("sweep", sweep),
+    ("list", list),
+];
 
 fn main() {
     println!("bytes of stack, tables nested         each");
@@ -73,6 +78,11 @@ fn text(description: &[u8]) -> usize {
 fn sweep(description: &[u8]) -> usize {
     let mut rows = [0; ROWS];
     of(|| dookerand::sweep(description, 0, &CODE, &mut rows))
+}
+
+fn list(description: &[u8]) -> usize {
+    let mut text = [0; LINE];
+    of(|| dookerand::list_answer(description, 0, &CODE, 0, &mut text))
 }
 
 fn others() -> [(&'static str, usize); 5] {

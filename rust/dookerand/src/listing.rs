@@ -1,0 +1,97 @@
+//! Listing code as lines of text.
+
+use crate::{answer, Answer};
+
+mod c {
+    extern "C" {
+        pub fn dookerand_list(
+            description: *const u8,
+            description_len: usize,
+            context: u32,
+            code: *const u8,
+            code_len: usize,
+            from: u64,
+            text: *mut u8,
+            text_len: usize,
+            values: *mut u64,
+        ) -> u32;
+    }
+}
+
+/// Bytes that always suffice for a line: a place, a colon and a blank, the
+/// longest text, a line feed.
+pub const LINE: usize = 8 + 2 + 256 + 1;
+
+/// What [`list`] did.
+#[derive(Clone, Copy, Debug, PartialEq, Eq)]
+pub enum Listing {
+    Listed {
+        /// How many bytes are written from the first lent byte on, and how many
+        /// lines they are.
+        bytes: usize,
+        lines: usize,
+        /// Where the listing goes on: at the line that did not fit, if the text
+        /// is full; else at the code's end, or where it began if that is not
+        /// before it.
+        next: u64,
+        full: bool,
+    },
+    /// The description's first fault.
+    Malformed { section: u16, record: u16 },
+}
+
+impl From<Answer> for Listing {
+    /// Of an answer of [`list_answer`].
+    fn from(answer: Answer) -> Listing {
+        let [first, second, next, end] = answer.values;
+        match answer.number {
+            0 => Listing::Listed {
+                bytes: first as usize,
+                lines: second as usize,
+                next,
+                full: end == 1,
+            },
+            _ => Listing::Malformed {
+                section: first as u16,
+                record: second as u16,
+            },
+        }
+    }
+}
+
+/// Lists the code from a place on, a line for each instruction and for each
+/// byte that is none, as many whole lines as fit into the lent bytes. Those
+/// behind the lines stay as they were, and so do all if the description is
+/// malformed. [`LINE`] bytes are enough to get on.
+pub fn list(description: &[u8], context: u32, code: &[u8], from: u64, text: &mut [u8]) -> Listing {
+    list_answer(description, context, code, from, text).into()
+}
+
+/// The same with its numbers: 0 with the bytes and lines written, the next
+/// place, and 1 if the text is full, else 0; or the refusal 1.
+pub fn list_answer(
+    description: &[u8],
+    context: u32,
+    code: &[u8],
+    from: u64,
+    text: &mut [u8],
+) -> Answer {
+    answer(|values| {
+        // SAFETY: slices give readable ranges and, empty too, no null pointers;
+        // a mutable slice overlaps no other. The call writes bytes of `text`
+        // and the four values alone.
+        unsafe {
+            c::dookerand_list(
+                description.as_ptr(),
+                description.len(),
+                context,
+                code.as_ptr(),
+                code.len(),
+                from,
+                text.as_mut_ptr(),
+                text.len(),
+                values,
+            )
+        }
+    })
+}
