@@ -1,9 +1,9 @@
 -- The scratch rows of a done instruction, for the text: they are sound, and their text is the instruction's.
-use Prim.Native.Nat.{ℕ, suc, _+_, _≤_, _<_}
+use Prim.Native.Nat.{ℕ, suc, _≤_, _<_}
 use mathlib.Core.List.{List}
 use mathlib.Core.Path.{_≡_, refl, sym, ap, _∙_}
 use native.Mathlib.Omega.{arith}
-use lib.IntN.{ℤ, pos}
+use lib.IntN.{pos}
 use lib.ListN.{length, replicate, length-append, length-replicate}
 use Rattle.format.specs.Numbers.{mostRows}
 use Rattle.format.specs.Description.{Description}
@@ -11,7 +11,6 @@ use Rattle.format.proofs.Formation.{Obeyed}
 use Rattle.decoding_spec.specs.Tree.{Node, Nodes, built, numbered, named, none, more, rowsOf, rowsOfAll}
 use Rattle.decoding_spec.specs.Walk.{done, instructionOf}
 use Rattle.decoding_spec.specs.declared.State.{State}
-use Rattle.decoding_theorems.specs.Facts.{InBounds}
 use Rattle.decoding_theorems.proofs.InBounds.{in-bounds, used-rows}
 use Rattle.decoding_theorems.proofs.Shapes.{shaped}
 use Rattle.walking.specs.Scratch.{scratchLength, sizedOf, sizedOfAll, written}

@@ -1,18 +1,15 @@
 -- The text by place: a part by its row's kind, and a constructor's pieces one by one.
 use Prim.Native.Nat.{ℕ, zero, suc, _+_, _-_, _*_, _≤_, _<_}
-use mathlib.Core.Bool.{Bool, true, false, cond}
-use mathlib.Core.List.{List, [], _++_}
-use mathlib.Core.Path.{_≡_, refl, sym, ap, _∙_}
+use mathlib.Core.List.{List, _++_}
+use mathlib.Core.Path.{_≡_, refl, ap, _∙_}
 use native.Mathlib.Numerals.{add-one}
 use native.Mathlib.Omega.{arith}
 use native.Mathlib.Decide.{decLt}
-use borrow.Author.Tests.{eq-eqb, ne-eqb}
-use lib.Dec.{eqb}
+use borrow.Author.Tests.{ne-eqb}
 use lib.IntN.{ℤ, pos, natAbs}
 use lib.ListN.{length, getD, length-append}
 use Rattle.format.specs.Numbers.{mostRows}
-use Rattle.format.specs.Description.{Description, noField, noConstructor, noPiece}
-use Rattle.format.specs.declared.Constructor.{Constructor}
+use Rattle.format.specs.Description.{Description, noField, noPiece}
 use Rattle.format.specs.declared.Piece.{Piece}
 use Rattle.fields.specs.Look.{lookOf}
 use Rattle.printing.specs.Numerals.{numberText}

@@ -1,2 +1,2 @@
 -- Decoding one instruction of any bytes to text.
-pub mod Texting
+pub mod TextDecoding

@@ -1,39 +1,40 @@
 // Decoding one instruction of any bytes to text.
-use format::Checked;
+use acceptance::Acceptance;
+use acceptance::Rejection;
+use decoding_spec::Refusal;
 use format::Layout;
-use instruction::Refusal;
 use text::Line;
 use walking::Walked;
 ghost use mathlib.Core.Path.{_≡_};
 ghost use lib.ListN.{length};
 ghost use Rattle.format.specs.Check.{Formed};
 ghost use Rattle.format.specs.Description.{description};
-ghost use Rattle.instruction.specs.Walk.{instructionOf};
-ghost use Rattle.text_decoding.specs.Texting.{told, written, decodeTextOf, textAfter};
+ghost use Rattle.text_decoding.specs.TextDecoding.{instructionAnswer, instructionBuffer, decodeTextOf, textAfter};
 
 pub enum Texted {
     Done(usize),
-    Malformed { section: usize, record: usize },
+    Rejected(Rejection),
     Refused(Refusal),
-    Long,
+    TextTooLong,
     NoRoom,
 }
 
 fn decode_in(desc: &[u8], layout: Layout, context: u32, code: &[u8], out: &mut [u8]) -> Texted
     requires { ⌜ Formed (now desc) layout ⌝ }
-    ensures { λ r. ⌜ r ≡ told (description (now (desc .entry)) layout) (length (now (out .entry))) (instructionOf (description (now (desc .entry)) layout) context (now (code .entry))) ⌝ }
-    ensures { λ _. ⌜ now (out .exit) ≡ written (description (now (desc .entry)) layout) (now (out .entry)) (instructionOf (description (now (desc .entry)) layout) context (now (code .entry))) ⌝ }
+    ensures { λ r. ⌜ r ≡ instructionAnswer (description (now (desc .entry)) layout) context (now (code .entry)) (length (now (out .entry))) ⌝ }
+    ensures { λ _. ⌜ now (out .exit) ≡ instructionBuffer (description (now (desc .entry)) layout) context (now (code .entry)) (now (out .entry)) ⌝ }
 {
-    let starts = tables::starts(desc, layout);
-    let mut scratch = [0i64; walking::SCRATCH];
-    let walked = walking::walk_root(desc, layout, &starts, context, code, &mut scratch);
+    let mut fixed = setting::fill(desc, layout, false);
+    let instruction = walking::decode_at(desc, &mut fixed, context, code, 0);
+    let rows = instruction.rows;
+    let walked = instruction.walked;
     match walked {
         Walked::Refused(refusal) => Texted::Refused(refusal),
-        Walked::Done { used, length: _ } => {
-            let line = text::print_text(desc, layout, &scratch, used, out);
+        Walked::Done { state, length: _ } => {
+            let line = text::print_text(desc, &fixed, &rows, state.used, out);
             match line {
                 Line::Written(count) => Texted::Done(count),
-                Line::Long => Texted::Long,
+                Line::TextTooLong => Texted::TextTooLong,
                 Line::NoRoom => Texted::NoRoom,
             }
         }
@@ -45,9 +46,9 @@ pub fn decode_text(desc: &[u8], context: u32, code: &[u8], out: &mut [u8]) -> Te
     ensures { λ r. ⌜ r ≡ decodeTextOf (now (desc .entry)) context (now (code .entry)) (length (now (out .entry))) ⌝ }
     ensures { λ _. ⌜ now (out .exit) ≡ textAfter (now (desc .entry)) context (now (code .entry)) (now (out .entry)) ⌝ }
 {
-    let checked = description::check(desc);
-    match checked {
-        Checked::Good(layout) => decode_in(desc, layout, context, code, out),
-        Checked::Fault { section, record } => Texted::Malformed { section, record },
+    let acceptance = acceptance::accept(desc);
+    match acceptance {
+        Acceptance::Accepted(layout) => decode_in(desc, layout, context, code, out),
+        Acceptance::Rejected(rejection) => Texted::Rejected(rejection),
     }
 }

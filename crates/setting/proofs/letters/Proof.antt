@@ -13,8 +13,6 @@ use Rattle.setting.specs.Fixed.{layoutIn, settingIn, Fixed}
 use borrow.Author.Needs.{needs}
 use Rattle.setting.proofs.letters.Statement.{statement}
 use Rattle.setting.proofs.letters.Tie as tie
-use Rattle.setting.proofs.letters.Reads as reads
-use Rattle.setting.proofs.letters.Lts as lts
 
 -- the text section lies in the description
 inside : (b a : List ℕ) (offset n : ℕ) → Fixed b a → offset + n ≤ length (settingIn b a .description .text) → getD a 10 0 + (offset + n) ≤ length b

@@ -2,7 +2,7 @@
 -- Assumes nothing.
 use Rattle.text.proofs.Parts.{kind-here, moved, PiecesWritten, no-piece, next-piece, full-piece, all-pieces, part-constructor, piece-letters, piece-operand}
 use Rattle.text.proofs.Pieces.{showable, pieces-inside}
-use Rattle.text.specs.Places.{kindAt, numberAt, skip}
+use Rattle.text.specs.Places.{numberAt, skip}
 use Rattle.text.specs.Text.{constructorText}
 use Rattle.format.specs.Description.{noConstructor, noPiece}
 use Rattle.setting.proofs.Laws.{obeyed-in}
@@ -11,7 +11,7 @@ use lib.IntN.{ℤ}
 use lib.ListN.{getD}
 use mathlib.Core.List.{List}
 use native.Mathlib.Omega.{arith}
-use mathlib.Core.Path.{_≡_, refl, sym, ap, _∙_}
+use mathlib.Core.Path.{_≡_, sym, _∙_}
 use borrow.Author.Needs.{needs}
 use Prim.Native.Nat.{ℕ, _<_, _≤_, _+_, _-_, _*_}
 use Rattle.format.specs.Numbers.{mostRows}
@@ -120,8 +120,11 @@ print-constructor-constructor-requires t c κs =
     (start .pre .1 .0 .fixed, rw (c .column .ensures) (start .pre .1 .0 .sound .constructors (start .args .r) (start .pre .1 .0 .row) (start .pre .1 .1)))
 
 -- the constructor that was read is that of the row
-found : (t : ℕ) (c : print-constructor-lts.After-constructor (print-constructor-claims t) (print-constructor-at t) print-constructor.Post print-constructor-Inv-loop print-constructor-μ-loop)
-    → c .constructor .result ≡ getD (described (c .before .before .before .before .args .desc .now) (c .before .before .before .before .args .fixed .now) .constructors) (numberAt (c .before .before .before .before .args .rows .now) (c .before .before .before .before .args .r)) noConstructor
+found : (t : ℕ)
+    (c : print-constructor-lts.After-constructor (print-constructor-claims t) (print-constructor-at t) print-constructor.Post print-constructor-Inv-loop print-constructor-μ-loop)
+    → let start = c .before .before .before .before in
+    let d = described (start .args .desc .now) (start .args .fixed .now) in
+    c .constructor .result ≡ getD (d .constructors) (numberAt (start .args .rows .now) (start .args .r)) noConstructor
 unfolding numberAt
 found t c = rw (c .before .column .ensures) at (c .constructor .ensures)
 
@@ -189,9 +192,13 @@ print-constructor-returns : (t : ℕ) → print-constructor-lts.Need-returns (pr
     print-constructor-Inv-loop
     print-constructor-μ-loop
 unfolding constructorText
-print-constructor-returns t c = λ depth g.
-    rw (found t (c .before .before .before .before .before .before .before .before .before .before)) at
-    (full-piece _ _ _ _ _ _ _ _ _ _ (c .before .before .before .before .before .before .before .loop .inv) (c .before .before .before .before .before .before .loop-test .taken) _ _ (c .before .before .before .before .print-piece .ensures) (c .enum-told .given .1) depth g (c .before .before .before .before .print-piece .last .1 .1 .1 .1 .1 .1 .0))
+print-constructor-returns t c =
+    λ depth g.
+    let end = c .before .before .before .before in
+    let adds = end .print-piece .ensures in
+    let after = end .print-piece .last .1 .1 .1 .1 .1 .1 .0 in
+    rw (found t (end .before .before .before .before .before .before)) at
+    (full-piece _ _ _ _ _ _ _ _ _ _ (end .before .before .before .loop .inv) (end .before .before .loop-test .taken) _ _ adds (c .enum-told .given .1) depth g after)
 
 print-constructor-enum-known-put : (t : ℕ) → print-constructor-lts.Need-enum-known-put (print-constructor-claims t) (print-constructor-at t)
     print-constructor.Post
@@ -203,7 +210,9 @@ print-constructor-add-q : (t : ℕ) → print-constructor-lts.Need-add-q (print-
     print-constructor.Post
     print-constructor-Inv-loop
     print-constructor-μ-loop
-print-constructor-add-q t c = omega (arith, c .before .before .before .before .before .before .before .loop-test .taken, c .before .before .before .before .before .before .before .before .before .struct-known2 .given)
+print-constructor-add-q t c =
+    let test = c .before .before .before .before .before .before .before in
+    omega (arith, test .loop-test .taken, test .before .before .struct-known2 .given)
 
 print-constructor-loop-less : (t : ℕ) → print-constructor-lts.Need-loop-less (print-constructor-claims t) (print-constructor-at t)
     print-constructor.Post
@@ -215,7 +224,11 @@ print-constructor-loop-again : (t : ℕ) → print-constructor-lts.Need-loop-aga
     print-constructor.Post
     print-constructor-Inv-loop
     print-constructor-μ-loop
-print-constructor-loop-again t c = next-piece _ _ _ _ _ _ _ _ _ _ (c .before .before .before .before .before .before .before .before .loop .inv) (c .before .before .before .before .before .before .before .loop-test .taken) _ _ (c .before .before .before .before .before .print-piece .ensures) _ (c .before .put .given .1) (c .before .before .before .before .before .print-piece .kept .1 .1 .1 .1 .1 .1 .0)
+print-constructor-loop-again t c =
+    let end = c .before .before .before .before .before in
+    let adds = end .print-piece .ensures in
+    let same = end .print-piece .kept .1 .1 .1 .1 .1 .1 .0 in
+    next-piece _ _ _ _ _ _ _ _ _ _ (end .before .before .before .loop .inv) (end .before .before .loop-test .taken) _ _ adds _ (c .before .put .given .1) same
 
 print-constructor-same-length-2 : (t : ℕ) → print-constructor-lts.Need-same-length-2 (print-constructor-claims t) (print-constructor-at t)
     print-constructor.Post
@@ -249,8 +262,10 @@ print-part-same-length t c = search needs
 print-part-returns : (t : ℕ) → print-part-lts.Need-returns (print-part-claims t) (print-part-at t) print-part.Post
 print-part-returns t c =
     let start = c .before .before .before .before .before .before .before .before in
+    let printed = c .before .before in
     part-constructor _ _ _ (omega (arith, start .pre .1 .sound .few, start .pre .1 .row)) _ _ _ _
-    (sym (kind-here _ (start .args .r) _ (c .before .before .before .before .before .column .ensures)) ∙ c .before .before .before .before .if1 .taken) (c .before .before .print-constructor .ensures)
+    (sym (kind-here _ (start .args .r) _ (printed .before .before .before .column .ensures)) ∙ printed .before .before .if1 .taken)
+    (printed .print-constructor .ensures)
 
 print-part-print-value-requires : (t : ℕ) → print-part-lts.Need-print-value-requires (print-part-claims t) (print-part-at t) print-part.Post
 print-part-print-value-requires t c κs =
@@ -290,7 +305,9 @@ print-piece-returns t c = λ depth g.
 abbrev Behind : List ℤ → ℕ → ℕ → ℕ → Type 0
 Behind rows r n used = (r < skip rows (r + 1) (n - 1)) × (skip rows (r + 1) (n - 1) < used)
 
-behind : (t : ℕ) (c : print-piece-lts.Else1 (print-piece-claims t) (print-piece-at t) print-piece.Post) → Behind (c .before .before .before .before .before .before .args .rows .now) (c .before .before .before .before .before .before .args .r) (c .before .before .before .piece .result .n) (c .before .before .before .before .before .before .args .used)
+behind : (t : ℕ) (c : print-piece-lts.Else1 (print-piece-claims t) (print-piece-at t) print-piece.Post)
+    → let start = c .before .before .before .before .before .before in
+    Behind (start .args .rows .now) (start .args .r) (c .before .before .before .piece .result .n) (start .args .used)
 behind t c =
     let start = c .before .before .before .before .before .before in
     let read = c .before .before .before .piece .ensures in
@@ -326,11 +343,13 @@ print-piece-same-length-2 : (t : ℕ) → print-piece-lts.Need-same-length-2 (pr
 print-piece-same-length-2 t c = search needs
 
 print-piece-returns-2 : (t : ℕ) → print-piece-lts.Need-returns-2 (print-piece-claims t) (print-piece-at t) print-piece.Post
-print-piece-returns-2 t c = λ depth g.
+print-piece-returns-2 t c =
+    λ depth g.
     let read = c .before .before .before .before .before .before .before .before .piece .ensures in
-    let row = behind t (c .before .before .before .before .before) in
+    let row = c .before .before .before .before .row-behind .ensures in
+    let behind = behind t (c .before .before .before .before .before) in
     piece-operand _ _ _ _ _ _ _ (rw read at (c .before .before .before .before .before .if1 .left))
-    (rw (c .before .before .before .before .row-behind .ensures, read) at (c .before .before .print-part .ensures depth (omega (arith, c .before .before .before .before .row-behind .ensures, row .0))))
+    (rw (row, read) at (c .before .before .print-part .ensures depth (omega (arith, row, behind .0))))
 
 pub +print-constructor+print-part+print-piece-spec : {M : Type 1} → statement M
 +print-constructor+print-part+print-piece-spec =

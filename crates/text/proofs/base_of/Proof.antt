@@ -1,13 +1,11 @@
+-- `text::base_of` meets its contract. Assumes nothing.
 use mathlib.Core.Logic.{inl}
-use mathlib.Core.Path.{_≡_, refl, sym, ap, _∙_}
+use mathlib.Core.Path.{refl, sym, ap, _∙_}
 use Rattle.text.specs.Text.{baseOf}
 use Rattle.text.proofs.Writers.{base-known}
 use borrow.Author.Needs.{needs}
 use Rattle.text.proofs.base_of.Statement.{statement}
 use Rattle.text.proofs.base_of.Tie as tie
-use Rattle.text.proofs.base_of.Reads as reads
-use Rattle.text.proofs.base_of.Lts as lts
-use Rattle.fields.proofs.look_of.Reads as look-of-reads
 
 look-of-requires : tie.Need-look-of-requires
 look-of-requires c κs = search needs

@@ -1,10 +1,8 @@
+-- `text::column` meets its contract. Assumes nothing.
 use mir.Facts.{toZ-ofZ}
 use borrow.Author.Needs.{needs}
 use Rattle.text.proofs.column.Statement.{statement}
 use Rattle.text.proofs.column.Tie as tie
-use Rattle.text.proofs.column.Reads as reads
-use Rattle.text.proofs.column.Lts as lts
-use Rattle.printing.proofs.magnitude.Reads as magnitude-reads
 
 mul-magnitude : tie.Need-mul-magnitude
 mul-magnitude c = search needs

@@ -1,21 +1,16 @@
 -- `text::print_text` meets its contract. Assumes nothing.
-use Prim.Native.Nat.{ℕ, suc, _+_, _<_, _≤_}
-use mathlib.Core.List.{List}
-use mathlib.Core.Path.{_≡_, refl, sym, ap, _∙_}
+use Prim.Native.Nat.{ℕ, suc}
+use mathlib.Core.Path.{sym}
 use native.Mathlib.Omega.{arith}
-use lib.ListN.{length, take, replicate, length-replicate}
+use lib.ListN.{replicate, length-replicate}
 use lib.Seq.{length-take-le}
 use Rattle.format.specs.Numbers.{mostRows}
 use Rattle.text.specs.Prints.{wholeText}
-use Rattle.text.specs.Append.{Appended, Appends}
+use Rattle.text.specs.Append.{Appended}
 use Rattle.text.proofs.LentText.{long-line, end-few, line-full, line-written}
 use borrow.Author.Needs.{needs}
 use Rattle.text.proofs.print_text.Statement.{statement}
 use Rattle.text.proofs.print_text.Tie as tie
-use Rattle.text.proofs.print_text.Reads as reads
-use Rattle.text.proofs.print_text.Lts as lts
-use Rattle.printing.proofs.put_bytes.Reads as put-bytes-reads
-use Rattle.text.proofs.print_part.Reads as print-part-reads
 
 slice-aggregate-print-part : tie.Need-slice-aggregate-print-part
 slice-aggregate-print-part c = search needs
@@ -33,19 +28,20 @@ enum-known-put c = search needs
 
 -- the text stands in the buffer, where it was written
 in-buffer : (c : tie.After-put)
-    → Appended 0 (wholeText (c .before .before .before .before .before .before .before .args .desc .now) (c .before .before .before .before .before .before .before .args .fixed .now) (c .before .before .before .before .before .before .before .args .rows .now)) (replicate 256 0) (c .before .before .before .print-part .last .1 .1 .1 .1 .1 .0) (c .put .given .0 .0)
+    → let start = c .before .before .before .before .before .before .before in
+    let whole = wholeText (start .args .desc .now) (start .args .fixed .now) (start .args .rows .now) in
+    Appended 0 whole (replicate 256 0) (c .before .before .before .print-part .last .1 .1 .1 .1 .1 .0) (c .put .given .0 .0)
 in-buffer c = rw (c .put .given .1) at (c .before .before .before .print-part .ensures (suc mostRows) (omega arith) .is)
 
 array-share-prefix-text : tie.Need-array-share-prefix-text
 array-share-prefix-text c =
-    rw (c .before .before .before .before .print-part .kept .1 .1 .1 .1 .1 .0)
-    (end-few _ _ _ (c .before .before .before .before .before .before .before .before .args .out .now) (length-replicate {A = ℕ} 256 0) _ (in-buffer (c .before)))
+    let few = end-few _ _ _ (c .before .before .before .before .before .before .before .before .args .out .now) (length-replicate {A = ℕ} 256 0) _ (in-buffer (c .before)) in
+    rw (c .before .before .before .before .print-part .kept .1 .1 .1 .1 .1 .0) few
 
 slice-aggregate-put-bytes : tie.Need-slice-aggregate-put-bytes
 slice-aggregate-put-bytes c =
-    sym
-    (length-take-le _ _
-    (rw (c .before .before .before .before .before .print-part .kept .1 .1 .1 .1 .1 .0) (end-few _ _ _ (c .before .before .before .before .before .before .before .before .before .args .out .now) (length-replicate {A = ℕ} 256 0) _ (in-buffer (c .before .before)))))
+    let few = end-few _ _ _ (c .before .before .before .before .before .before .before .before .before .args .out .now) (length-replicate {A = ℕ} 256 0) _ (in-buffer (c .before .before)) in
+    sym (length-take-le _ _ (rw (c .before .before .before .before .before .print-part .kept .1 .1 .1 .1 .1 .0) few))
 
 put-bytes-requires : tie.Need-put-bytes-requires
 put-bytes-requires c κs = search needs
@@ -65,13 +61,17 @@ same-length : tie.Need-same-length
 same-length c = search needs
 
 returns-2 : tie.Need-returns-2
-returns-2 c = line-full _ _ _ _ (length-replicate {A = ℕ} 256 0) _ (in-buffer (c .before .before .before .before .before .before .before .before)) _ _ (c .before .before .before .before .put-bytes .ensures) (c .enum-told2 .given .1)
+returns-2 c =
+    let text = in-buffer (c .before .before .before .before .before .before .before .before) in
+    line-full _ _ _ _ (length-replicate {A = ℕ} 256 0) _ text _ _ (c .before .before .before .before .put-bytes .ensures) (c .enum-told2 .given .1)
 
 same-length-2 : tie.Need-same-length-2
 same-length-2 c = search needs
 
 returns-3 : tie.Need-returns-3
-returns-3 c = line-written _ _ _ _ (length-replicate {A = ℕ} 256 0) _ (in-buffer (c .before .before .before .before .before .before .before .before .before)) _ _ (c .before .before .before .before .before .put-bytes .ensures) _ (c .before .copied .given .1)
+returns-3 c =
+    let text = in-buffer (c .before .before .before .before .before .before .before .before .before) in
+    line-written _ _ _ _ (length-replicate {A = ℕ} 256 0) _ text _ _ (c .before .before .before .before .before .put-bytes .ensures) _ (c .before .copied .given .1)
 
 pub print-text-spec : {M : Type 1} → statement M
 print-text-spec =

@@ -1,17 +1,12 @@
 -- `text::print_value` meets its contract. Assumes nothing.
-use mathlib.Core.Path.{_≡_, sym, ap, _∙_}
+use mathlib.Core.Path.{sym, _∙_}
 use native.Mathlib.Omega.{arith}
 use mir.Facts.{toZ-ofZ}
-use Rattle.text.specs.Places.{kindAt, numberAt, lastAt}
+use Rattle.text.specs.Places.{numberAt, lastAt}
 use Rattle.text.proofs.Parts.{part-number, part-name}
 use borrow.Author.Needs.{needs}
 use Rattle.text.proofs.print_value.Statement.{statement}
 use Rattle.text.proofs.print_value.Tie as tie
-use Rattle.text.proofs.print_value.Reads as reads
-use Rattle.text.proofs.print_value.Lts as lts
-use Rattle.text.proofs.column.Reads as column-reads
-use Rattle.text.proofs.put_field.Reads as put-field-reads
-use Rattle.text.proofs.put_name.Reads as put-name-reads
 
 mul-last : tie.Need-mul-last
 mul-last c = search needs

@@ -3,11 +3,6 @@ use mir.Facts.{toZ-ofZ}
 use borrow.Author.Needs.{needs}
 use Rattle.text.proofs.put_field.Statement.{statement}
 use Rattle.text.proofs.put_field.Tie as tie
-use Rattle.text.proofs.put_field.Reads as reads
-use Rattle.text.proofs.put_field.Lts as lts
-use Rattle.setting.proofs.field.Reads as field-reads
-use Rattle.text.proofs.base_of.Reads as base-of-reads
-use Rattle.text.proofs.put_value.Reads as put-value-reads
 
 field-requires : tie.Need-field-requires
 field-requires c κs = search needs
@@ -22,7 +17,11 @@ same-length : tie.Need-same-length
 same-length c = search needs
 
 returns : tie.Need-returns
-returns c = rw (toZ-ofZ (c .before .before .before .before .before .before .before .before .fits .value), c .before .before .before .before .base-of .ensures .0, c .before .before .before .before .before .field .ensures) at (c .before .before .put-value .ensures)
+returns c =
+    let value = toZ-ofZ (c .before .before .before .before .before .before .before .before .fits .value) in
+    let base = c .before .before .before .before .base-of .ensures .0 in
+    let field = c .before .before .before .before .before .field .ensures in
+    rw (value, base, field) at (c .before .before .put-value .ensures)
 
 pub put-field-spec : {M : Type 1} → statement M
 put-field-spec =

@@ -8,10 +8,6 @@ use Rattle.text.proofs.Writers.{appends-full, appends-wrote, end-within
 use borrow.Author.Needs.{needs}
 use Rattle.text.proofs.put_letters.Statement.{statement}
 use Rattle.text.proofs.put_letters.Tie as tie
-use Rattle.text.proofs.put_letters.Reads as reads
-use Rattle.text.proofs.put_letters.Lts as lts
-use Rattle.printing.proofs.put_bytes.Reads as put-bytes-reads
-use Rattle.setting.proofs.letters.Reads as letters-reads
 
 letters-requires : tie.Need-letters-requires
 letters-requires c κs = search needs
@@ -48,7 +44,8 @@ returns : tie.Need-returns
 unfolding letters
 returns c =
     let start = c .before .before .before .before .before .before .before .before .before in
-    appends-full _ _ _ _ _ (start .pre .1) _ refl (rw (c .before .before .before .before .before .before .letters .ensures) at (c .before .before .before .before .put-bytes .ensures)) _ (c .enum-told .given .1)
+    let puts = rw (c .before .before .before .before .before .before .letters .ensures) at (c .before .before .before .before .put-bytes .ensures) in
+    appends-full _ _ _ _ _ (start .pre .1) _ refl puts _ (c .enum-told .given .1)
 
 same-length-2 : tie.Need-same-length-2
 same-length-2 c = search needs
@@ -57,7 +54,8 @@ returns-2 : tie.Need-returns-2
 unfolding letters
 returns-2 c =
     let start = c .before .before .before .before .before .before .before .before .before .before in
-    appends-wrote _ _ _ _ _ (start .pre .1) _ refl (rw (c .before .before .before .before .before .before .before .letters .ensures) at (c .before .before .before .before .before .put-bytes .ensures)) _ (c .before .put .given .1)
+    let puts = rw (c .before .before .before .before .before .before .before .letters .ensures) at (c .before .before .before .before .before .put-bytes .ensures) in
+    appends-wrote _ _ _ _ _ (start .pre .1) _ refl puts _ (c .before .put .given .1)
 
 pub put-letters-spec : {M : Type 1} → statement M
 put-letters-spec =

@@ -5,10 +5,6 @@ use Rattle.text.proofs.Pieces.{name-inside}
 use borrow.Author.Needs.{needs}
 use Rattle.text.proofs.put_name.Statement.{statement}
 use Rattle.text.proofs.put_name.Tie as tie
-use Rattle.text.proofs.put_name.Reads as reads
-use Rattle.text.proofs.put_name.Lts as lts
-use Rattle.setting.proofs.name.Reads as name-reads
-use Rattle.text.proofs.put_letters.Reads as put-letters-reads
 
 name-requires : tie.Need-name-requires
 name-requires c κs = search needs

@@ -1,16 +1,13 @@
 -- `text::put_value` meets its contract. Assumes nothing.
 use Prim.Native.Nat.{_+_, _≤_}
 use lib.ListN.{length}
-use mathlib.Core.Path.{_≡_, refl, sym, ap, _∙_}
+use mathlib.Core.Path.{refl}
 use native.Mathlib.Omega.{arith}
 use mir.Facts.{toZ-ofZ}
 use Rattle.text.proofs.Writers.{appends-full, appends-wrote, end-within}
 use borrow.Author.Needs.{needs}
 use Rattle.text.proofs.put_value.Statement.{statement}
 use Rattle.text.proofs.put_value.Tie as tie
-use Rattle.text.proofs.put_value.Reads as reads
-use Rattle.text.proofs.put_value.Lts as lts
-use Rattle.printing.proofs.put_number.Reads as put-number-reads
 
 sub-put-number : tie.Need-sub-put-number
 sub-put-number c = search needs

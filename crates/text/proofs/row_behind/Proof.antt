@@ -1,13 +1,11 @@
+-- `text::row_behind` meets its contract. Assumes nothing.
 use Prim.Native.Nat.{_+_, _-_}
-use mathlib.Core.Path.{_≡_, refl, sym, ap, _∙_}
+use mathlib.Core.Path.{_≡_, refl, sym, _∙_}
 use native.Mathlib.Omega.{arith}
 use Rattle.text.specs.Places.{skip, sizeAt}
 use Rattle.text.proofs.RowSteps.{skip-on, skip-one, skip-none}
 use Rattle.text.proofs.row_behind.Statement.{statement}
 use Rattle.text.proofs.row_behind.Tie as tie
-use Rattle.text.proofs.row_behind.Reads as reads
-use Rattle.text.proofs.row_behind.Lts as lts
-use Rattle.text.proofs.column.Reads as column-reads
 
 abbrev Inv-loop : tie.InvT-loop
 Inv-loop rows first parts row₀ left₀ row left = skip rows row left ≡ skip rows first parts
