@@ -1,4 +1,4 @@
 -- Laws of a line.
-mod Appending
+pub mod Appending
 mod Showing
 mod Made

@@ -14,7 +14,7 @@ use Rattle.acceptance.specs.Acceptance.{acceptanceOf, accepting, firstValue, se
 use Rattle.acceptance.specs.declared.Acceptance.{Acceptance}
 use Rattle.acceptance.specs.declared.Acceptance.the-variants.{Accepted, Rejected}
 use Rattle.acceptance.specs.declared.Rejection.{Rejection}
-use Rattle.listing_lines.specs.Line.{lineAt, nextAt, faultText, lineBytes}
+use Rattle.listing_lines.specs.Line.{lineAt, nextAt, malformedText, faultText, lineBytes}
 use Rattle.listing_text.specs.Listing.{Window, noLines, before, linesOf, windowFrom, windowOf, faultFrom, faultWindow, listingFrom, codePart, descriptionPart, inputWindow}
 use Rattle.listing_text.specs.Runs.{Cut, joined, placeAfter, endOf}
 use Rattle.listing_text.proofs.Moving.{Moves, moves-on, line-length, no-line, line-here}
@@ -72,7 +72,7 @@ module _ (d : Description) (c : ℕ) (s : List ℕ) where
   window-of room at = window-cut (length s) room at (omega arith)
 
 fault-length : (x : Rejection) → length (faultText x) ≤ lineBytes
-unfolding faultText
+unfolding malformedText
 fault-length x = simp length-append (omega (arith, digits-length 10 (firstValue x), digits-length 10 (secondValue x)))
 
 fault-window : (x : Rejection) (room at : ℕ) → Cut (faultFrom x) 1 room at (faultWindow x room at)
