@@ -1,4 +1,4 @@
 -- Laws of a line.
 pub mod Appending
-mod Showing
+pub mod Showing
 mod Made

@@ -29,6 +29,7 @@ module _ (d : Description) (c : ℕ) (s : List ℕ) where
       record {
         rest = refl;
         last = λ e. no-line d c s at (omega arith);
+        more = λ z. let y : _≡_ {A = ℕ} 0 1 = cc in absurd (omega arith);
         since = omega arith;
         on = λ b r. absurd (omega arith);
       }
@@ -48,6 +49,7 @@ module _ (d : Description) (c : ℕ) (s : List ℕ) where
           record {
             rest = line-here d c s at b ∙ ap (λ (l : List ℕ). line ++ l) (w .rest) ∙ sym (append-assoc line _ _);
             last = w .last;
+            more = w .more;
             since = omega (arith, w .since, f .on);
             on = λ g r. omega (arith, w .since, f .on);
           }
@@ -55,6 +57,7 @@ module _ (d : Description) (c : ℕ) (s : List ℕ) where
           record {
             rest = refl;
             last = λ z. let y : _≡_ {A = ℕ} 0 1 = cc in absurd (omega arith);
+            more = λ z. b;
             since = omega arith;
             on = λ g r. absurd (omega (arith, leb-false (length line) room e, line-length d c s at));
           }
@@ -64,7 +67,7 @@ module _ (d : Description) (c : ℕ) (s : List ℕ) where
           (cond t (noLines at false) (cond (leb (length line) room) (before line (windowFrom d c s most (room - length line) next)) (noLines at true)))
       go true e again =
           let b = leb-true (length s) at e in
-          record { rest = refl; last = λ z. no-line d c s at b; since = omega arith; on = λ g r. absurd (omega arith) }
+          record { rest = refl; last = λ z. no-line d c s at b; more = λ z. let y : _≡_ {A = ℕ} 0 1 = cc in absurd (omega arith); since = omega arith; on = λ g r. absurd (omega arith) }
       go false e again = fit (leb-false (length s) at e) again (leb (length line) room) refl
 
   pub window-of : (room at : ℕ) → Cut (linesOf d c s) (length s) room at (windowOf d c s room at)
@@ -85,6 +88,7 @@ fault-window x room at = go (eqb at 0) refl
         record {
           rest = rw z (sym (append-nil (faultText x)) ∙ ap (λ (l : List ℕ). l ++ []) (sym (append-nil (faultText x))));
           last = λ q. refl;
+          more = λ z. let y : _≡_ {A = ℕ} 0 1 = cc in absurd (omega arith);
           since = omega arith;
           on = λ g r. omega arith;
         }
@@ -92,6 +96,7 @@ fault-window x room at = go (eqb at 0) refl
         record {
           rest = rw z;
           last = λ q. let y : _≡_ {A = ℕ} 0 1 = cc in absurd (omega arith);
+          more = λ q. omega arith;
           since = omega arith;
           on = λ g r. absurd (omega (arith, leb-false (length (faultText x)) room e, fault-length x));
         }
@@ -101,7 +106,7 @@ fault-window x room at = go (eqb at 0) refl
     go true e = here (eqb-true at 0 e) (leb (length (faultText x)) room) refl
     go false e =
         let z = eqb-false at 0 e in
-        record { rest = refl; last = λ q. rw (ne-eqb at 0 z); since = omega arith; on = λ g r. absurd (omega (arith, z)) }
+        record { rest = refl; last = λ q. rw (ne-eqb at 0 z); more = λ q. let y : _≡_ {A = ℕ} 0 1 = cc in absurd (omega arith); since = omega arith; on = λ g r. absurd (omega (arith, z)) }
 
 -- a window of what the program prints
 pub input-window : (input : List ℕ) (room at : ℕ) → Cut (listingFrom input) (endOf input) room at (inputWindow input room at)
@@ -129,3 +134,11 @@ parts-joined input (room ∷ rooms) at =
     let w = inputWindow input room at in
     input-window input room at .rest ∙ ap (λ (l : List ℕ). w .text ++ l) (parts-joined input rooms (w .next))
     ∙ sym (append-assoc (w .text) (joined (inputWindow input) rooms (w .next)) (listingFrom input (placeAfter (inputWindow input) rooms (w .next))))
+
+-- with room for a line each part moves on, so the parts come to an end
+pub goes-on : (input : List ℕ) (room at : ℕ) → lineBytes ≤ room → inputWindow input room at .full ≡ true
+    → (at < inputWindow input room at .next) × (inputWindow input room at .next < endOf input)
+goes-on input room at h e =
+    let w = input-window input room at in
+    let inside = w .more e in
+    (w .on (omega (arith, w .since)) h, inside)

@@ -2,4 +2,6 @@
 pub mod Moving
 pub mod Joined
 mod Going
+mod Turns
 mod Splitting
+mod Faults

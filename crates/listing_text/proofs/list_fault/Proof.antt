@@ -1,3 +1,5 @@
+-- `listing_text::list_fault` meets its contract. Assumes nothing.
+use Rattle.listing_text.proofs.Faults.{fault-behind, prefix-long, size-fits, fault-full, fault-written}
 use borrow.Author.Needs.{needs}
 use Rattle.listing_text.proofs.list_fault.Statement.{statement}
 use Rattle.listing_text.proofs.list_fault.Tie as tie
@@ -6,49 +8,38 @@ use Rattle.listing_text.proofs.list_fault.Lts as lts
 use Rattle.listing_lines.proofs.fault_line.Reads as fault-line-reads
 use Rattle.printing.proofs.put_bytes.Reads as put-bytes-reads
 
--- src/lib.rt:134:13
 fault-line-requires : tie.Need-fault-line-requires
 fault-line-requires c κs = search needs
 
--- src/lib.rt:137:39
 array-share-prefix-text : tie.Need-array-share-prefix-text
-array-share-prefix-text c = ?
+array-share-prefix-text c = size-fits _ (c .before .before .before .before .args .out .now) 0 _ (c .before .fault-line .ensures)
 
--- src/lib.rt:137:39
 slice-aggregate-put-bytes : tie.Need-slice-aggregate-put-bytes
-slice-aggregate-put-bytes c = ?
+slice-aggregate-put-bytes c = prefix-long _ (c .before .before .before .before .before .args .out .now) 0 _ (c .before .before .fault-line .ensures)
 
--- src/lib.rt:137:13
 put-bytes-requires : tie.Need-put-bytes-requires
 put-bytes-requires c κs = search needs
 
--- src/lib.rt:140:17
 enum-told : tie.Need-enum-told
 enum-told c = search needs
 
--- src/lib.rt:140:17
 same-length : tie.Need-same-length
 same-length c = search needs
 
--- src/lib.rt:140:17
 returns : tie.Need-returns
-returns c = ?
+returns c = fault-full _ _ _ _ (c .before .before .before .before .before .before .before .before .fault-line .ensures) (c .before .before .before .before .before .before .before .before .before .if1 .taken) _ _ (c .before .before .before .before .put-bytes .ensures) (c .enum-told .given .1)
 
--- src/lib.rt:147:28
 enum-known-put : tie.Need-enum-known-put
 enum-known-put c = search needs
 
--- src/lib.rt:148:17
 same-length-2 : tie.Need-same-length-2
 same-length-2 c = search needs
 
--- src/lib.rt:148:17
 returns-2 : tie.Need-returns-2
-returns-2 c = ?
+returns-2 c = fault-written _ _ _ _ (c .before .before .before .before .before .before .before .before .before .fault-line .ensures) (c .before .before .before .before .before .before .before .before .before .before .if1 .taken) _ _ (c .before .before .before .before .before .put-bytes .ensures) _ (c .before .put .given .1)
 
--- src/lib.rt:130:1
 returns-3 : tie.Need-returns-3
-returns-3 c = ?
+returns-3 c = fault-behind _ _ _ (c .if1 .left)
 
 pub list-fault-spec : {M : Type 1} → statement M
 list-fault-spec =

@@ -1,3 +1,14 @@
+-- `listing_text::list_in` meets its contract. Assumes nothing.
+use Prim.Native.Nat.{_-_}
+use mathlib.Core.Bool.{true}
+use mathlib.Core.Path.{_≡_, refl, ap, _∙_}
+use native.Mathlib.Omega.{arith}
+use borrow.Author.Needs.{needs}
+use lib.ListN.{length}
+use Rattle.format.specs.Description.{Description, description}
+use Rattle.setting.proofs.Laws.{fixed-of, setting-of}
+use Rattle.text.specs.Prints.{described}
+use Rattle.listing_text.proofs.Turns.{Turn, first-turn, room-left, last-turn, place-there, prefix-long, full-turn, count-fits, next-turn, moves, size-fits, lines-fit}
 use Rattle.listing_text.proofs.list_in.Statement.{statement}
 use Rattle.listing_text.proofs.list_in.Tie as tie
 use Rattle.listing_text.proofs.list_in.Reads as reads
@@ -7,86 +18,77 @@ use Rattle.printing.proofs.put_bytes.Reads as put-bytes-reads
 use Rattle.setting.proofs.fill.Reads as fill-reads
 
 abbrev Inv-loop : tie.InvT-loop
-Inv-loop desc context code from out₀ fixed₀ at₀ bytes₀ lines₀ out fixed at bytes lines = ?
+Inv-loop desc context code from out₀ fixed₀ at₀ bytes₀ lines₀ out fixed at bytes lines = Turn desc fixed₀ context code out₀ from fixed out at bytes lines
 
 abbrev μ-loop : tie.MeasureT-loop
-μ-loop desc context code from out₀ fixed₀ at₀ bytes₀ lines₀ out fixed at bytes lines = ?
+μ-loop desc context code from out₀ fixed₀ at₀ bytes₀ lines₀ out fixed at bytes lines = length code - at
 
--- src/lib.rt:51:21
+-- the numbers are the description's
+found : (c : tie.After-fill Inv-loop μ-loop) → described (c .before .before .before .before .args .desc .now) (c .fill .result) ≡ description (c .before .before .before .before .args .desc .now) (c .before .before .before .before .args .layout)
+found c = ap (described (c .before .before .before .before .args .desc .now)) (c .fill .ensures) ∙ setting-of (c .before .before .before .before .args .desc .now) (c .before .before .before .before .args .layout) true
+
 fill-requires : tie.Need-fill-requires Inv-loop μ-loop
-fill-requires c κs = ?
+fill-requires c κs = search needs
 
--- src/lib.rt:55:5
 loop-holds : tie.Need-loop-holds Inv-loop μ-loop
-loop-holds c = ?
+loop-holds c = first-turn _ _ _ _ _ _ (rw (c .fill .ensures) (fixed-of _ _ true (c .before .before .before .before .pre)))
 
--- src/lib.rt:56:13
 line-at-requires : tie.Need-line-at-requires Inv-loop μ-loop
-line-at-requires c κs = ?
+line-at-requires c κs = place-there _ _ _ _ _ _ _ _ _ _ _ (c .before .before .loop .inv) (c .before .loop-test .taken)
 
--- src/lib.rt:59:39
 array-share-prefix-text : tie.Need-array-share-prefix-text Inv-loop μ-loop
-array-share-prefix-text c = ?
+array-share-prefix-text c = size-fits _ _ _ _ _ _ _ _ _ _ _ (c .before .before .before .before .loop .inv) (c .before .before .before .loop-test .taken) _ (c .before .line-at .ensures .0)
 
--- src/lib.rt:59:39
 slice-aggregate-put-bytes : tie.Need-slice-aggregate-put-bytes Inv-loop μ-loop
-slice-aggregate-put-bytes c = ?
+slice-aggregate-put-bytes c = prefix-long _ _ _ _ _ _ _ _ _ _ _ (c .before .before .before .before .before .loop .inv) (c .before .before .before .before .loop-test .taken) _ (c .before .before .line-at .ensures .0)
 
--- src/lib.rt:59:54
 sub-put-bytes : tie.Need-sub-put-bytes Inv-loop μ-loop
-sub-put-bytes c = ?
+sub-put-bytes c = search needs
 
--- src/lib.rt:59:54
 part-put-bytes-start : tie.Need-part-put-bytes-start Inv-loop μ-loop
-part-put-bytes-start c = ?
+part-put-bytes-start c = search needs
 
--- src/lib.rt:59:54
 part-put-bytes-end : tie.Need-part-put-bytes-end Inv-loop μ-loop
-part-put-bytes-end c = ?
+part-put-bytes-end c = search needs
 
--- src/lib.rt:59:13
 put-bytes-requires : tie.Need-put-bytes-requires Inv-loop μ-loop
-put-bytes-requires c κs = ?
+put-bytes-requires c κs = search needs
 
--- src/lib.rt:62:17
 enum-told : tie.Need-enum-told Inv-loop μ-loop
-enum-told c = ?
+enum-told c = search needs
 
--- src/lib.rt:62:17
 same-length : tie.Need-same-length Inv-loop μ-loop
-same-length c = ?
+same-length c = search needs
 
--- src/lib.rt:62:17
 returns : tie.Need-returns Inv-loop μ-loop
-returns c = ?
+returns c = rw (found (c .before .before .before .before .before .before .before .before .before .before .before .before)) at
+    (full-turn _ _ _ _ _ _ _ _ _ _ _ (c .before .before .before .before .before .before .before .before .before .before .before .loop .inv) (c .before .before .before .before .before .before .before .before .before .before .loop-test .taken) _ (c .before .before .before .before .before .before .before .before .line-at .ensures .0) _ _ _ refl (c .before .before .before .before .put-bytes .ensures) (c .enum-told .given .1))
 
--- src/lib.rt:69:28
 enum-known-put : tie.Need-enum-known-put Inv-loop μ-loop
-enum-known-put c = ?
+enum-known-put c = search needs
 
--- src/lib.rt:70:17
 add-bytes : tie.Need-add-bytes Inv-loop μ-loop
-add-bytes c = ?
+add-bytes c = 
+    omega (arith, count-fits _ _ _ _ _ _ _ _ _ _ _ (c .before .before .before .before .before .before .before .before .before .before .before .before .loop .inv) (c .before .before .before .before .before .before .before .before .before .before .before .loop-test .taken) _ (c .before .before .before .before .before .before .before .before .before .line-at .ensures .0) _ _ _ refl (c .before .before .before .before .before .put-bytes .ensures) _ (c .before .put .given .1), c .before .before .before .before .before .before .before .before .before .before .before .before .before .before .before .before .before .good .1 .1 .1 .1 .1 .0)
 
--- src/lib.rt:71:17
 add-lines : tie.Need-add-lines Inv-loop μ-loop
-add-lines c = ?
+add-lines c = 
+    omega (arith, lines-fit _ _ _ _ _ _ _ _ _ _ _ (c .before .before .before .before .before .before .before .before .before .before .before .before .loop .inv) (c .before .before .before .before .before .before .before .before .before .before .before .loop-test .taken) _ (c .before .before .before .before .before .before .before .before .before .line-at .ensures .0) _ _ _ refl (c .before .before .before .before .before .put-bytes .ensures) _ (c .before .put .given .1), c .before .before .before .before .before .before .before .before .before .before .before .before .before .before .before .before .before .good .1 .1 .1 .1 .1 .0)
 
--- src/lib.rt:55:5
 loop-less : tie.Need-loop-less Inv-loop μ-loop
-loop-less c = ?
+loop-less c = 
+    omega (arith, moves _ _ _ _ _ _ _ _ _ _ _ (c .before .before .before .before .before .before .before .before .before .before .before .before .loop .inv) (c .before .before .before .before .before .before .before .before .before .before .before .loop-test .taken) _ (c .before .before .before .before .before .before .before .before .before .line-at .ensures .0) _ _ _ refl (c .before .before .before .before .before .put-bytes .ensures) _ (c .before .put .given .1), c .before .before .before .before .before .before .before .before .before .before .before .loop-test .taken)
 
--- src/lib.rt:55:5
 loop-again : tie.Need-loop-again Inv-loop μ-loop
-loop-again c = ?
+loop-again c = 
+    next-turn _ _ _ _ _ _ _ _ _ _ _ (c .before .before .before .before .before .before .before .before .before .before .before .before .loop .inv) (c .before .before .before .before .before .before .before .before .before .before .before .loop-test .taken) _ (c .before .before .before .before .before .before .before .before .before .line-at .ensures .0) _ _ _ refl (c .before .before .before .before .before .put-bytes .ensures) _ (c .before .put .given .1)
+    _ (c .before .before .before .before .before .before .before .before .before .line-at .ensures .1) _ refl
 
--- src/lib.rt:40:1
 same-length-2 : tie.Need-same-length-2 Inv-loop μ-loop
-same-length-2 c = ?
+same-length-2 c = c .before .loop .inv .kept
 
--- src/lib.rt:40:1
 returns-2 : tie.Need-returns-2 Inv-loop μ-loop
-returns-2 c = ?
+returns-2 c = rw (found (c .before .before)) at (last-turn _ _ _ _ _ _ _ _ _ _ _ (c .before .loop .inv) (c .loop-test .left))
 
 pub list-in-spec : {M : Type 1} → statement M
 list-in-spec =

@@ -34,7 +34,7 @@ smaller-requires-2 : tie.Need-smaller-requires-2
 smaller-requires-2 c κs = search needs
 
 returns-2 : tie.Need-returns-2
-returns-2 c = ?
+returns-2 c = split-at _ _ _ _ (c .before .before .before .if1 .left) (c .before .before .word .ensures) (c .before .smaller .ensures) (c .smaller2 .ensures)
 
 pub take-apart-spec : {M : Type 1} → statement M
 take-apart-spec =
