@@ -45,22 +45,34 @@ cast-t19 : tie.Need-cast-t19
 cast-t19 c = search needs
 
 returns : tie.Need-returns
-returns c = let e = sym (c .before .before .before .before .ask .ensures) ∙ c .before .before .asked .given .1 in (rw e, rw e)
+returns c =
+    let e = sym (c .before .before .before .before .ask .ensures) ∙ c .before .before .asked .given .1 in
+    (rw e, rw e)
 
 returns-2 : tie.Need-returns-2
-returns-2 c = let e = sym (c .before .before .before .before .before .ask .ensures) ∙ c .before .before .before .asked2 .given .1 in (rw e (c .reject .ensures .0), rw e (c .reject .ensures .1))
+returns-2 c =
+    let e = sym (c .before .before .before .before .before .ask .ensures) ∙ c .before .before .before .asked2 .given .1 in
+    (rw e (c .reject .ensures .0), rw e (c .reject .ensures .1))
 
 returns-3 : tie.Need-returns-3
-returns-3 c = let e = sym (c .before .before .before .before .ask .ensures) ∙ c .before .before .asked3 .given .1 in (rw e, rw e)
+returns-3 c =
+    let e = sym (c .before .before .before .before .ask .ensures) ∙ c .before .before .asked3 .given .1 in
+    (rw e, rw e)
 
 returns-4 : tie.Need-returns-4
-returns-4 c = let e = sym (c .before .before .before .ask .ensures) ∙ c .before .enum-told .given .1 in (rw e, rw e)
+returns-4 c =
+    let e = sym (c .before .before .before .ask .ensures) ∙ c .before .enum-told .given .1 in
+    (rw e, rw e)
 
 returns-5 : tie.Need-returns-5
-returns-5 c = let e = sym (c .before .before .before .before .ask .ensures) ∙ c .before .before .asked4 .given .1 in (rw e, rw e)
+returns-5 c =
+    let e = sym (c .before .before .before .before .ask .ensures) ∙ c .before .before .asked4 .given .1 in
+    (rw e, rw e)
 
 returns-6 : tie.Need-returns-6
-returns-6 c = let e = sym (c .before .before .before .before .ask .ensures) ∙ c .before .before .asked5 .given .1 in (rw e, rw e)
+returns-6 c =
+    let e = sym (c .before .before .before .before .ask .ensures) ∙ c .before .before .asked5 .given .1 in
+    (rw e, rw e)
 
 pub dookerand-ask-spec : {M : Type 1} → statement M
 dookerand-ask-spec =

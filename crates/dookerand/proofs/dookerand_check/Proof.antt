@@ -21,10 +21,14 @@ reject-requires : tie.Need-reject-requires
 reject-requires c κs = search needs
 
 returns : tie.Need-returns
-returns c = let e = sym (c .before .before .before .accept .ensures) ∙ c .before .enum-told .given .1 in (rw e, rw e)
+returns c =
+    let e = sym (c .before .before .before .accept .ensures) ∙ c .before .enum-told .given .1 in
+    (rw e, rw e)
 
 returns-2 : tie.Need-returns-2
-returns-2 c = let e = sym (c .before .before .before .before .before .accept .ensures) ∙ c .before .before .before .acceptance .given .1 in (rw e (c .reject .ensures .0), rw e (c .reject .ensures .1))
+returns-2 c =
+    let e = sym (c .before .before .before .before .before .accept .ensures) ∙ c .before .before .before .acceptance .given .1 in
+    (rw e (c .reject .ensures .0), rw e (c .reject .ensures .1))
 
 pub dookerand-check-spec : {M : Type 1} → statement M
 dookerand-check-spec =

@@ -26,16 +26,24 @@ cast-t15 : tie.Need-cast-t15
 cast-t15 c = search needs
 
 returns : tie.Need-returns
-returns c = let e = sym (c .before .before .before .clash .ensures) ∙ c .before .enum-told .given .1 in (rw e, rw e)
+returns c =
+    let e = sym (c .before .before .before .clash .ensures) ∙ c .before .enum-told .given .1 in
+    (rw e, rw e)
 
 returns-2 : tie.Need-returns-2
-returns-2 c = let e = sym (c .before .before .before .before .clash .ensures) ∙ c .before .before .judged .given .1 in (rw e, rw e)
+returns-2 c =
+    let e = sym (c .before .before .before .before .clash .ensures) ∙ c .before .before .judged .given .1 in
+    (rw e, rw e)
 
 returns-3 : tie.Need-returns-3
-returns-3 c = let e = sym (c .before .before .before .before .clash .ensures) ∙ c .before .before .judged2 .given .1 in (rw e, rw e)
+returns-3 c =
+    let e = sym (c .before .before .before .before .clash .ensures) ∙ c .before .before .judged2 .given .1 in
+    (rw e, rw e)
 
 returns-4 : tie.Need-returns-4
-returns-4 c = let e = sym (c .before .before .before .before .clash .ensures) ∙ c .before .before .judged3 .given .1 in (rw e, rw e)
+returns-4 c =
+    let e = sym (c .before .before .before .before .clash .ensures) ∙ c .before .before .judged3 .given .1 in
+    (rw e, rw e)
 
 pub dookerand-clash-spec : {M : Type 1} → statement M
 dookerand-clash-spec =

@@ -35,19 +35,29 @@ enum-known-answer-4 : tie.Need-enum-known-answer-4
 enum-known-answer-4 c = search needs
 
 returns : tie.Need-returns
-returns c = let e = c .before .enum-told .given .1 in (c .before .before .before .tree-check .result, c .before .before .before .tree-check .ensures, rw e, rw e)
+returns c =
+    let e = c .before .enum-told .given .1 in
+    (c .before .before .before .tree-check .result, c .before .before .before .tree-check .ensures, rw e, rw e)
 
 returns-2 : tie.Need-returns-2
-returns-2 c = let e = c .before .before .answer .given .1 in (c .before .before .before .before .tree-check .result, c .before .before .before .before .tree-check .ensures, rw e, rw e)
+returns-2 c =
+    let e = c .before .before .answer .given .1 in
+    (c .before .before .before .before .tree-check .result, c .before .before .before .before .tree-check .ensures, rw e, rw e)
 
 returns-3 : tie.Need-returns-3
-returns-3 c = let e = c .before .before .before .answer2 .given .1 in (c .before .before .before .before .before .tree-check .result, c .before .before .before .before .before .tree-check .ensures, rw e (c .reject .ensures .0), rw e (c .reject .ensures .1))
+returns-3 c =
+    let e = c .before .before .before .answer2 .given .1 in
+    (c .before .before .before .before .before .tree-check .result, c .before .before .before .before .before .tree-check .ensures, rw e (c .reject .ensures .0), rw e (c .reject .ensures .1))
 
 returns-4 : tie.Need-returns-4
-returns-4 c = let e = c .before .before .answer3 .given .1 in (c .before .before .before .before .tree-check .result, c .before .before .before .before .tree-check .ensures, rw e, rw e)
+returns-4 c =
+    let e = c .before .before .answer3 .given .1 in
+    (c .before .before .before .before .tree-check .result, c .before .before .before .before .tree-check .ensures, rw e, rw e)
 
 returns-5 : tie.Need-returns-5
-returns-5 c = let e = c .before .before .answer4 .given .1 in (c .before .before .before .before .tree-check .result, c .before .before .before .before .tree-check .ensures, rw e, rw e)
+returns-5 c =
+    let e = c .before .before .answer4 .given .1 in
+    (c .before .before .before .before .tree-check .result, c .before .before .before .before .tree-check .ensures, rw e, rw e)
 
 pub dookerand-tree-spec : {M : Type 1} → statement M
 dookerand-tree-spec =
