@@ -16,6 +16,7 @@ use Rattle.patterns.specs.Relations.{insideBits, inside, meetBits, overlap, wei
 use Rattle.choice.specs.Choosing.{short, matching, innermost, taken, alone, choose}
 use Rattle.choice.specs.Clashing.{crossing, third, clashing, partner, firstClash, clashOf}
 use Rattle.choosing.specs.Table.{patternFrom}
+use Rattle.acceptance.specs.Acceptance.{acceptanceOf}
 use Rattle.asking.specs.Asking.{askIn, askOf}
 use Rattle.clashing.specs.Entry.{clashIn, clashAnswer}
 use Rattle.format.specs.declared.Pattern.{Pattern}
@@ -30,15 +31,15 @@ use Rattle.tree_leaves.proofs.Sides.{sound-start}
 use Rattle.tree_leaves.proofs.Judging.{accepts, rejects}
 use Rattle.fields.specs.Value.{valueOf, ofBits, sourceBit, tokenByte}
 use Rattle.fields.specs.Look.{lookOf, numberOf, signedOf}
-use Rattle.instruction.specs.Tree.{rowsOf, rowsOfAll, numbersOf}
-use Rattle.instruction.specs.Walk as walk
-use Rattle.instruction.specs.Walk.{shownAs, fieldFrom, operandFrom, closed, constructorFrom, tableFrom, walkFrom, instructionOf}
+use Rattle.decoding_spec.specs.Tree.{rowsOf, rowsOfAll, numbersOf}
+use Rattle.decoding_spec.specs.Walk as walk
+use Rattle.decoding_spec.specs.Walk.{shownAs, fieldFrom, operandFrom, closed, constructorFrom, tableFrom, walkFrom, choiceIn, instructionFrom, instructionOf}
 use Rattle.decoding.specs.Decoding.{decodeOf, rowsAfter}
 use Rattle.printing.specs.Numerals.{digitOf, digitsUpTo, digitsOf, signText, prefixText, numberText}
 use Rattle.printing.specs.Writing.{over}
 use Rattle.text.specs.Text as text
 use Rattle.text.specs.Text.{letters, pieceText, piecesText, constructorText, nameText, textsOf}
-use Rattle.text_decoding.specs.Texting.{decodeTextOf, textAfter}
+use Rattle.text_decoding.specs.TextDecoding.{decodeTextOf, textAfter}
 use Rattle.cases.specs.Cases as cases-of
 use Rattle.cases.specs.Cases.{Starred, leafZero, leafNone, same, allHold, asks, clashes, bytes, rows, two, three, halves, chooses, pairs, decodes, reads, cases, holds}
 
@@ -67,9 +68,9 @@ unfolding holds cases allHold same asks clashes bytes rows two three halves choo
     checkOf faultOf partFault badField badName badConstructor badOperand badPiece badLetter
     tableFirst tableEnd contextAgrees matches agrees masksMissing cutOff insideBits inside meetBits overlap weight
     short matching innermost taken alone choose crossing third clashing partner firstClash clashOf
-    patternFrom askIn askOf clashIn clashAnswer formOf walkOf nodeOk leafOk kindAt bitAt placeAt
+    acceptanceOf patternFrom askIn askOf clashIn clashAnswer formOf walkOf nodeOk leafOk kindAt bitAt placeAt
     cases-of.signedOf decodes valueOf ofBits sourceBit tokenByte lookOf numberOf signedOf rowsOf rowsOfAll numbersOf shownAs fieldFrom operandFrom
-    walk.operandsFrom closed constructorFrom tableFrom walkFrom instructionOf decodeOf rowsAfter
+    walk.operandsFrom closed constructorFrom tableFrom walkFrom choiceIn instructionFrom instructionOf decodeOf rowsAfter
     reads digitOf digitsUpTo digitsOf signText prefixText numberText over letters pieceText piecesText constructorText nameText text.textOf textsOf
     decodeTextOf textAfter
 cases-hold =

@@ -16,10 +16,10 @@ use Rattle.clashing.specs.Entry as clashing
 use Rattle.clashing.specs.Entry.{clashAnswer}
 use Rattle.decoding.specs.Decoding as decoding
 use Rattle.decoding.specs.Decoding.{decodeOf, rowsAfter}
-use Rattle.text_decoding.specs.Texting as texting
-use Rattle.text_decoding.specs.Texting.{decodeTextOf, textAfter}
+use Rattle.text_decoding.specs.TextDecoding as texting
+use Rattle.text_decoding.specs.TextDecoding.{decodeTextOf, textAfter}
 use Rattle.tree_check.specs.Entry.{Answers}
-use Rattle.tree_check.specs.declared.Answer.the-variants.{Accepted, Rejected}
+use Rattle.tree_check.specs.declared.Answer.the-variants.{Accepted, WrongLeaf}
 
 pub record Case : Type 0 where
   pub given : List ℕ
@@ -164,4 +164,4 @@ leafNone = 1 ∷ 0 ∷ 0 ∷ 0 ∷ 0xff ∷ 0xff ∷ []
 pub record Starred : Type 0 where
   pub computed : holds ≡ true
   pub right : Answers S 0 leafZero Accepted
-  pub wrong : Answers S 0 leafNone (Rejected 0 0 0)
+  pub wrong : Answers S 0 leafNone (WrongLeaf 0 0 0)

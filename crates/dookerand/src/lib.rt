@@ -1,15 +1,20 @@
 // The C face. Each function returns the answer's number in document 01's table and sets all four values.
+use acceptance::Acceptance;
+use acceptance::Rejection;
 use asking::Asked;
 use clashing::Judged;
 use decoding::Decoded;
-use format::Checked;
-use instruction::Refusal;
+use decoding_spec::Refusal;
+use listing_text::Listed;
 use sweeping::End;
 use sweeping::Swept;
 use text_decoding::Texted;
 use tree_check::Answer;
 ghost use mathlib.Core.Path.{_≡_};
-ghost use Rattle.format.specs.Check.{checkOf, numberOf, valuesOf};
+ghost use lib.ListN.{length};
+ghost use Rattle.acceptance.specs.Acceptance as acceptance;
+ghost use Rattle.acceptance.specs.Acceptance.{acceptanceOf, rejectionNumber, rejectionValues};
+ghost use Rattle.decoding_spec.specs.Refusals.{refusalNumber, refusalValues};
 ghost use Rattle.asking.specs.Asking as asking;
 ghost use Rattle.asking.specs.Asking.{askOf};
 ghost use Rattle.clashing.specs.Entry as clashing;
@@ -17,41 +22,63 @@ ghost use Rattle.clashing.specs.Entry.{clashAnswer};
 ghost use Rattle.tree_check.specs.Entry.{Reported};
 ghost use Rattle.decoding.specs.Decoding as decoding;
 ghost use Rattle.decoding.specs.Decoding.{decodeOf, rowsAfter};
-ghost use Rattle.instruction.specs.Answers.{refusalNumber, refusalValues};
-ghost use Rattle.text_decoding.specs.Texting as texting;
-ghost use Rattle.text_decoding.specs.Texting.{decodeTextOf, textAfter};
+ghost use Rattle.text_decoding.specs.TextDecoding as texting;
+ghost use Rattle.text_decoding.specs.TextDecoding.{decodeTextOf, textAfter};
 ghost use Rattle.sweeping.specs.Sweep as sweeping;
-ghost use Rattle.sweeping.specs.Sweep.{endNumber, sweepOf, sweepAfter};
-ghost use lib.ListN.{length};
+ghost use Rattle.sweeping.specs.Sweep.{endNumber, sweepOf, bufferAfter};
+ghost use Rattle.listing_text.specs.Listing as listing;
+ghost use Rattle.listing_text.specs.Listing.{flag, listOf, listAfter};
+
+// A rejection's number and values.
+fn reject(rejection: Rejection, values: &mut [u64; 4]) -> u32
+    ensures { λ r. ⌜ r ≡ rejectionNumber rejection ⌝ }
+    ensures { λ _. ⌜ now (values .exit) ≡ rejectionValues rejection ⌝ }
+{
+    let first = acceptance::first_value(rejection);
+    let second = acceptance::second_value(rejection);
+    let third = acceptance::third_value(rejection);
+    *values = [first as u64, second as u64, third as u64, 0];
+    acceptance::number_of(rejection) as u32
+}
+
+// A refusal's number and values.
+fn refuse(refusal: Refusal, values: &mut [u64; 4]) -> u32
+    ensures { λ r. ⌜ r ≡ refusalNumber refusal ⌝ }
+    ensures { λ _. ⌜ now (values .exit) ≡ refusalValues refusal ⌝ }
+{
+    let place = decoding_spec::refusal_place(refusal);
+    let table = decoding_spec::refusal_table(refusal);
+    *values = [place as u64, table as u64, 0, 0];
+    decoding_spec::refusal_number(refusal) as u32
+}
 
 #[no_mangle]
-pub extern "C" fn dookerand_check(description: &[u8], values: &mut [u64; 4]) -> u32
-    ensures { λ r. ⌜ (r ≡ numberOf (checkOf (now (description .entry)))) × (now (values .exit) ≡ valuesOf (checkOf (now (description .entry)))) ⌝ }
+pub extern "C" fn dookerand_check(desc: &[u8], values: &mut [u64; 4]) -> u32
+    ensures { λ r. ⌜ r ≡ acceptance.numberOf (acceptanceOf (now (desc .entry))) ⌝ }
+    ensures { λ _. ⌜ now (values .exit) ≡ acceptance.valuesOf (acceptanceOf (now (desc .entry))) ⌝ }
 {
-    let checked = description::check(description);
-    match checked {
-        Checked::Good(_) => {
+    let acceptance = acceptance::accept(desc);
+    match acceptance {
+        Acceptance::Accepted(_) => {
             *values = [0, 0, 0, 0];
             0
         }
-        Checked::Fault { section, record } => {
-            *values = [section as u64, record as u64, 0, 0];
-            1
-        }
+        Acceptance::Rejected(rejection) => reject(rejection, values),
     }
 }
 
 #[no_mangle]
 pub extern "C" fn dookerand_ask(
-    description: &[u8],
+    desc: &[u8],
     table: u32,
     context: u32,
     code: &[u8],
     values: &mut [u64; 4],
 ) -> u32
-    ensures { λ r. ⌜ (r ≡ asking.numberOf (askOf (now (description .entry)) table context (now (code .entry)))) × (now (values .exit) ≡ asking.valuesOf (askOf (now (description .entry)) table context (now (code .entry)))) ⌝ }
+    ensures { λ r. ⌜ r ≡ asking.numberOf (askOf (now (desc .entry)) table context (now (code .entry))) ⌝ }
+    ensures { λ _. ⌜ now (values .exit) ≡ asking.valuesOf (askOf (now (desc .entry)) table context (now (code .entry))) ⌝ }
 {
-    let asked = asking::ask(description, table, context, code);
+    let asked = asking::ask(desc, table, context, code);
     match asked {
         Asked::Done {
             constructor,
@@ -60,10 +87,7 @@ pub extern "C" fn dookerand_ask(
             *values = [constructor as u64, weight as u64, 0, 0];
             0
         }
-        Asked::Malformed { section, record } => {
-            *values = [section as u64, record as u64, 0, 0];
-            1
-        }
+        Asked::Rejected(rejection) => reject(rejection, values),
         Asked::NoTable(t) => {
             *values = [t as u64, 0, 0, 0];
             12
@@ -84,10 +108,11 @@ pub extern "C" fn dookerand_ask(
 }
 
 #[no_mangle]
-pub extern "C" fn dookerand_clash(description: &[u8], table: u32, values: &mut [u64; 4]) -> u32
-    ensures { λ r. ⌜ (r ≡ clashing.numberOf (clashAnswer (now (description .entry)) table)) × (now (values .exit) ≡ clashing.valuesOf (clashAnswer (now (description .entry)) table)) ⌝ }
+pub extern "C" fn dookerand_clash(desc: &[u8], table: u32, values: &mut [u64; 4]) -> u32
+    ensures { λ r. ⌜ r ≡ clashing.numberOf (clashAnswer (now (desc .entry)) table) ⌝ }
+    ensures { λ _. ⌜ now (values .exit) ≡ clashing.valuesOf (clashAnswer (now (desc .entry)) table) ⌝ }
 {
-    let judged = clashing::clash(description, table);
+    let judged = clashing::clash(desc, table);
     match judged {
         Judged::Clear => {
             *values = [0, 0, 0, 0];
@@ -109,21 +134,16 @@ pub extern "C" fn dookerand_clash(description: &[u8], table: u32, values: &mut [
 }
 
 #[no_mangle]
-pub extern "C" fn dookerand_tree(
-    description: &[u8],
-    table: u32,
-    tree: &[u8],
-    values: &mut [u64; 4],
-) -> u32
-    ensures { λ r. ⌜ Reported (now (description .entry)) table (now (tree .entry)) r (now (values .exit)) ⌝ }
+pub extern "C" fn dookerand_tree(desc: &[u8], table: u32, tree: &[u8], values: &mut [u64; 4]) -> u32
+    ensures { λ r. ⌜ Reported (now (desc .entry)) table (now (tree .entry)) r (now (values .exit)) ⌝ }
 {
-    let answer = tree_check::tree_check(description, table, tree);
+    let answer = tree_check::tree_check(desc, table, tree);
     match answer {
         Answer::Accepted => {
             *values = [0, 0, 0, 0];
             0
         }
-        Answer::Rejected {
+        Answer::WrongLeaf {
             node,
             word,
             context,
@@ -131,10 +151,7 @@ pub extern "C" fn dookerand_tree(
             *values = [1, node as u64, word, context as u64];
             0
         }
-        Answer::Malformed { section, record } => {
-            *values = [section as u64, record as u64, 0, 0];
-            1
-        }
+        Answer::Rejected(rejection) => reject(rejection, values),
         Answer::NoTable(t) => {
             *values = [t as u64, 0, 0, 0];
             12
@@ -146,63 +163,25 @@ pub extern "C" fn dookerand_tree(
     }
 }
 
-// A refusal's number and values.
-fn refuse(refusal: Refusal, values: &mut [u64; 4]) -> u32
-    ensures { λ r. ⌜ (r ≡ refusalNumber refusal) × (now (values .exit) ≡ refusalValues refusal) ⌝ }
-{
-    match refusal {
-        Refusal::Short(place) => {
-            *values = [place as u64, 0, 0, 0];
-            2
-        }
-        Refusal::NoMatch { place, table } => {
-            *values = [place as u64, table as u64, 0, 0];
-            3
-        }
-        Refusal::Ambiguous { place, table } => {
-            *values = [place as u64, table as u64, 0, 0];
-            4
-        }
-        Refusal::Hole(place) => {
-            *values = [place as u64, 0, 0, 0];
-            5
-        }
-        Refusal::Far(place) => {
-            *values = [place as u64, 0, 0, 0];
-            6
-        }
-        Refusal::ManyRows => {
-            *values = [0, 0, 0, 0];
-            7
-        }
-        Refusal::Empty => {
-            *values = [0, 0, 0, 0];
-            8
-        }
-    }
-}
-
 #[no_mangle]
 pub extern "C" fn dookerand_decode(
-    description: &[u8],
+    desc: &[u8],
     context: u32,
     code: &[u8],
     rows: &mut [i64],
     values: &mut [u64; 4],
 ) -> u32
-    ensures { λ r. ⌜ (r ≡ decoding.numberOf (decodeOf (now (description .entry)) context (now (code .entry)) (length (now (rows .entry))))) × (now (values .exit) ≡ decoding.valuesOf (decodeOf (now (description .entry)) context (now (code .entry)) (length (now (rows .entry))))) ⌝ }
-    ensures { λ _. ⌜ now (rows .exit) ≡ rowsAfter (now (description .entry)) context (now (code .entry)) (now (rows .entry)) ⌝ }
+    ensures { λ r. ⌜ r ≡ decoding.numberOf (decodeOf (now (desc .entry)) context (now (code .entry)) (length (now (rows .entry)))) ⌝ }
+    ensures { λ _. ⌜ now (values .exit) ≡ decoding.valuesOf (decodeOf (now (desc .entry)) context (now (code .entry)) (length (now (rows .entry)))) ⌝ }
+    ensures { λ _. ⌜ now (rows .exit) ≡ rowsAfter (now (desc .entry)) context (now (code .entry)) (now (rows .entry)) ⌝ }
 {
-    let decoded = decoding::decode(description, context, code, rows);
+    let decoded = decoding::decode(desc, context, code, rows);
     match decoded {
         Decoded::Done(written) => {
             *values = [written as u64, 0, 0, 0];
             0
         }
-        Decoded::Malformed { section, record } => {
-            *values = [section as u64, record as u64, 0, 0];
-            1
-        }
+        Decoded::Rejected(rejection) => reject(rejection, values),
         Decoded::Refused(refusal) => refuse(refusal, values),
         Decoded::NoRoom => {
             *values = [0, 0, 0, 0];
@@ -213,27 +192,25 @@ pub extern "C" fn dookerand_decode(
 
 #[no_mangle]
 pub extern "C" fn dookerand_text(
-    description: &[u8],
+    desc: &[u8],
     context: u32,
     code: &[u8],
     text: &mut [u8],
     values: &mut [u64; 4],
 ) -> u32
-    ensures { λ r. ⌜ (r ≡ texting.numberOf (decodeTextOf (now (description .entry)) context (now (code .entry)) (length (now (text .entry))))) × (now (values .exit) ≡ texting.valuesOf (decodeTextOf (now (description .entry)) context (now (code .entry)) (length (now (text .entry))))) ⌝ }
-    ensures { λ _. ⌜ now (text .exit) ≡ textAfter (now (description .entry)) context (now (code .entry)) (now (text .entry)) ⌝ }
+    ensures { λ r. ⌜ r ≡ texting.numberOf (decodeTextOf (now (desc .entry)) context (now (code .entry)) (length (now (text .entry)))) ⌝ }
+    ensures { λ _. ⌜ now (values .exit) ≡ texting.valuesOf (decodeTextOf (now (desc .entry)) context (now (code .entry)) (length (now (text .entry)))) ⌝ }
+    ensures { λ _. ⌜ now (text .exit) ≡ textAfter (now (desc .entry)) context (now (code .entry)) (now (text .entry)) ⌝ }
 {
-    let texted = text_decoding::decode_text(description, context, code, text);
+    let texted = text_decoding::decode_text(desc, context, code, text);
     match texted {
         Texted::Done(written) => {
             *values = [written as u64, 0, 0, 0];
             0
         }
-        Texted::Malformed { section, record } => {
-            *values = [section as u64, record as u64, 0, 0];
-            1
-        }
+        Texted::Rejected(rejection) => reject(rejection, values),
         Texted::Refused(refusal) => refuse(refusal, values),
-        Texted::Long => {
+        Texted::TextTooLong => {
             *values = [0, 0, 0, 0];
             10
         }
@@ -256,16 +233,17 @@ fn end_number(why: End) -> u64
 
 #[no_mangle]
 pub extern "C" fn dookerand_sweep(
-    description: &[u8],
+    desc: &[u8],
     context: u32,
     code: &[u8],
     rows: &mut [i64],
     values: &mut [u64; 4],
 ) -> u32
-    ensures { λ r. ⌜ (r ≡ sweeping.numberOf (sweepOf (now (description .entry)) context (now (code .entry)) (length (now (rows .entry))))) × (now (values .exit) ≡ sweeping.valuesOf (sweepOf (now (description .entry)) context (now (code .entry)) (length (now (rows .entry))))) ⌝ }
-    ensures { λ _. ⌜ now (rows .exit) ≡ sweepAfter (now (description .entry)) context (now (code .entry)) (now (rows .entry)) ⌝ }
+    ensures { λ r. ⌜ r ≡ sweeping.numberOf (sweepOf (now (desc .entry)) context (now (code .entry)) (length (now (rows .entry)))) ⌝ }
+    ensures { λ _. ⌜ now (values .exit) ≡ sweeping.valuesOf (sweepOf (now (desc .entry)) context (now (code .entry)) (length (now (rows .entry)))) ⌝ }
+    ensures { λ _. ⌜ now (rows .exit) ≡ bufferAfter (now (desc .entry)) context (now (code .entry)) (now (rows .entry)) ⌝ }
 {
-    let swept = sweeping::sweep(description, context, code, rows);
+    let swept = sweeping::sweep(desc, context, code, rows);
     match swept {
         Swept::Ended {
             why,
@@ -275,9 +253,39 @@ pub extern "C" fn dookerand_sweep(
             *values = [end_number(why), written as u64, next as u64, 0];
             0
         }
-        Swept::Malformed { section, record } => {
-            *values = [section as u64, record as u64, 0, 0];
-            1
+        Swept::Rejected(rejection) => reject(rejection, values),
+    }
+}
+
+fn full_number(full: bool) -> u64
+    ensures { λ r. ⌜ r ≡ flag full ⌝ }
+{
+    if full {
+        return 1;
+    }
+    0
+}
+
+#[no_mangle]
+pub extern "C" fn dookerand_list(
+    desc: &[u8],
+    context: u32,
+    code: &[u8],
+    from: u64,
+    text: &mut [u8],
+    values: &mut [u64; 4],
+) -> u32
+    ensures { λ r. ⌜ r ≡ listing.numberOf (listOf (now (desc .entry)) context (now (code .entry)) from (length (now (text .entry)))) ⌝ }
+    ensures { λ _. ⌜ now (values .exit) ≡ listing.valuesOf (listOf (now (desc .entry)) context (now (code .entry)) from (length (now (text .entry)))) ⌝ }
+    ensures { λ _. ⌜ now (text .exit) ≡ listAfter (now (desc .entry)) context (now (code .entry)) from (now (text .entry)) ⌝ }
+{
+    let listed = listing_text::list(desc, context, code, from as usize, text);
+    match listed {
+        Listed::Done(part) => {
+            let full = full_number(part.full);
+            *values = [part.bytes as u64, part.lines as u64, part.next as u64, full];
+            0
         }
+        Listed::Rejected(rejection) => reject(rejection, values),
     }
 }

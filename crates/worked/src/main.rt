@@ -1,6 +1,7 @@
 // Runs document 01's worked cases that are not proved as theorems, and prints the answers: the number of document 01's table
 // and its values.
-use format::Checked;
+use acceptance::Acceptance;
+use acceptance::Rejection;
 use libc::STDOUT_FILENO;
 use sweeping::End;
 use sweeping::Swept;
@@ -320,16 +321,18 @@ fn number(n: usize) {
     io::print_decimal(STDOUT_FILENO, n as u64);
 }
 
+fn rejected(rejection: Rejection) {
+    number(acceptance::number_of(rejection) as usize);
+    number(acceptance::first_value(rejection));
+    number(acceptance::second_value(rejection));
+}
+
 fn judge(text: &[u8], description: &[u8]) {
     line(text);
-    let checked = description::check(description);
-    match checked {
-        Checked::Good(_) => number(0),
-        Checked::Fault { section, record } => {
-            number(1);
-            number(section);
-            number(record);
-        }
+    let acceptance = acceptance::accept(description);
+    match acceptance {
+        Acceptance::Accepted(_) => number(0),
+        Acceptance::Rejected(rejection) => rejected(rejection),
     }
     line(b"\n");
 }
@@ -343,17 +346,13 @@ fn examine(text: &[u8], tree: &[u8]) {
             number(0);
             number(0);
         }
-        Answer::Rejected { node, word, .. } => {
+        Answer::WrongLeaf { node, word, .. } => {
             number(0);
             number(1);
             number(node);
             number((word & 255) as usize);
         }
-        Answer::Malformed { section, record } => {
-            number(1);
-            number(section);
-            number(record);
-        }
+        Answer::Rejected(rejection) => rejected(rejection),
         Answer::NoTable(t) => {
             number(12);
             number(t as usize);
@@ -435,13 +434,9 @@ fn read(name: &[u8], code: &[u8]) {
                 line(&text[..count]);
             }
         }
-        Texted::Malformed { section, record } => {
-            number(1);
-            number(section);
-            number(record);
-        }
+        Texted::Rejected(rejection) => rejected(rejection),
         Texted::Refused(_) => line(b" refused"),
-        Texted::Long => number(10),
+        Texted::TextTooLong => number(10),
         Texted::NoRoom => number(9),
     }
     line(b"\n");
@@ -473,11 +468,7 @@ fn sweep_of(name: &[u8], room: usize) {
                 number(written);
                 number(next);
             }
-            Swept::Malformed { section, record } => {
-                number(1);
-                number(section);
-                number(record);
-            }
+            Swept::Rejected(rejection) => rejected(rejection),
         }
     }
     line(b"\n");

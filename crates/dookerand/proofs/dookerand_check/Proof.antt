@@ -1,31 +1,36 @@
-use mathlib.Core.Path.{refl, sym, _∙_}
+-- `dookerand::dookerand_check` meets its contract. Assumes nothing.
+use mathlib.Core.Path.{sym, _∙_}
 use borrow.Author.Needs.{needs}
 use Rattle.dookerand.proofs.dookerand_check.Statement.{statement}
 use Rattle.dookerand.proofs.dookerand_check.Tie as tie
 use Rattle.dookerand.proofs.dookerand_check.Reads as reads
 use Rattle.dookerand.proofs.dookerand_check.Lts as lts
-use Rattle.description.proofs.check.Reads as check-reads
+use Rattle.acceptance.proofs.accept.Reads as accept-reads
+use Rattle.dookerand.proofs.reject.Reads as reject-reads
 
--- src/lib.rt:10:9
-check-requires : tie.Need-check-requires
-check-requires c κs = search needs
+accept-requires : tie.Need-accept-requires
+accept-requires c κs = search needs
 
--- src/lib.rt:13:13
 enum-told : tie.Need-enum-told
 enum-told c = search needs
 
--- src/lib.rt:16:26
-enum-known-checked : tie.Need-enum-known-checked
-enum-known-checked c = search needs
+enum-known-acceptance : tie.Need-enum-known-acceptance
+enum-known-acceptance c = search needs
 
--- src/lib.rt:6:1
+reject-requires : tie.Need-reject-requires
+reject-requires c κs = search needs
+
 returns : tie.Need-returns
-returns c = rw (sym (c .before .before .before .check .ensures) ∙ c .before .enum-told .given .1) (refl, refl)
+returns c =
+    let e = sym (c .before .before .before .accept .ensures) ∙ c .before .enum-told .given .1 in
+    (rw e, rw e)
 
--- src/lib.rt:6:1
 returns-2 : tie.Need-returns-2
-returns-2 c = rw (sym (c .before .before .before .before .check .ensures) ∙ c .before .before .checked .given .1) (refl, refl)
+returns-2 c =
+    let e = sym (c .before .before .before .before .before .accept .ensures) ∙ c .before .before .before .acceptance .given .1 in
+    (rw e (c .reject .ensures .0), rw e (c .reject .ensures .1))
 
 pub dookerand-check-spec : {M : Type 1} → statement M
 dookerand-check-spec =
-    tie.close (tie.spec check-requires enum-told enum-known-checked returns returns-2)
+    tie.close
+    (tie.spec accept-requires enum-told enum-known-acceptance reject-requires returns returns-2)

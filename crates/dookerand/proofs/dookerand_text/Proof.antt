@@ -1,79 +1,77 @@
-use mathlib.Core.Path.{refl, sym, _∙_}
+-- `dookerand::dookerand_text` meets its contract. Assumes nothing.
+use mathlib.Core.Path.{sym, _∙_}
 use borrow.Author.Needs.{needs}
 use Rattle.dookerand.proofs.dookerand_text.Statement.{statement}
 use Rattle.dookerand.proofs.dookerand_text.Tie as tie
 use Rattle.dookerand.proofs.dookerand_text.Reads as reads
 use Rattle.dookerand.proofs.dookerand_text.Lts as lts
 use Rattle.dookerand.proofs.refuse.Reads as refuse-reads
+use Rattle.dookerand.proofs.reject.Reads as reject-reads
 use Rattle.text_decoding.proofs.decode_text.Reads as decode-text-reads
 
--- src/lib.rt:221:9
 decode-text-requires : tie.Need-decode-text-requires
 decode-text-requires c κs = search needs
 
--- src/lib.rt:223:22
 enum-known-texted : tie.Need-enum-known-texted
 enum-known-texted c = search needs
 
--- src/lib.rt:227:29
 enum-known-texted-2 : tie.Need-enum-known-texted-2
 enum-known-texted-2 c = search needs
 
--- src/lib.rt:231:25
+reject-requires : tie.Need-reject-requires
+reject-requires c κs = search needs
+
 enum-known-texted-3 : tie.Need-enum-known-texted-3
 enum-known-texted-3 c = search needs
 
--- src/lib.rt:231:37
 refuse-requires : tie.Need-refuse-requires
 refuse-requires c κs = search needs
 
--- src/lib.rt:233:13
 enum-told : tie.Need-enum-told
 enum-told c = search needs
 
--- src/lib.rt:237:13
 enum-told-2 : tie.Need-enum-told-2
 enum-told-2 c = search needs
 
--- src/lib.rt:210:1
 same-length : tie.Need-same-length
 same-length c = search needs
 
--- src/lib.rt:210:1
 returns : tie.Need-returns
-returns c = (rw (sym (c .before .before .before .before .before .before .decode-text .ensures .0) ∙ c .before .before .texted .given .1) (refl, refl), c .before .before .before .before .before .before .decode-text .ensures .1)
+returns c =
+    let e = sym (c .before .before .before .before .before .before .decode-text .ensures .0) ∙ c .before .before .texted .given .1 in
+    (rw e, (rw e, c .before .before .before .before .before .before .decode-text .ensures .1))
 
--- src/lib.rt:210:1
 same-length-2 : tie.Need-same-length-2
 same-length-2 c = search needs
 
--- src/lib.rt:210:1
 returns-2 : tie.Need-returns-2
-returns-2 c = (rw (sym (c .before .before .before .before .before .before .decode-text .ensures .0) ∙ c .before .before .texted2 .given .1) (refl, refl), c .before .before .before .before .before .before .decode-text .ensures .1)
+returns-2 c =
+    let e = sym (c .before .before .before .before .before .before .before .decode-text .ensures .0) ∙ c .before .before .before .texted2 .given .1 in
+    (rw e (c .reject .ensures .0), (rw e (c .reject .ensures .1), c .before .before .before .before .before .before .before .decode-text .ensures .1))
 
--- src/lib.rt:210:1
 same-length-3 : tie.Need-same-length-3
 same-length-3 c = search needs
 
--- src/lib.rt:210:1
 returns-3 : tie.Need-returns-3
-returns-3 c = (rw (sym (c .before .before .before .before .before .before .before .decode-text .ensures .0) ∙ c .before .before .before .texted3 .given .1) (c .refuse .ensures), c .before .before .before .before .before .before .before .decode-text .ensures .1)
+returns-3 c =
+    let e = sym (c .before .before .before .before .before .before .before .decode-text .ensures .0) ∙ c .before .before .before .texted3 .given .1 in
+    (rw e (c .refuse .ensures .0), (rw e (c .refuse .ensures .1), c .before .before .before .before .before .before .before .decode-text .ensures .1))
 
--- src/lib.rt:210:1
 same-length-4 : tie.Need-same-length-4
 same-length-4 c = search needs
 
--- src/lib.rt:210:1
 returns-4 : tie.Need-returns-4
-returns-4 c = (rw (sym (c .before .before .before .before .before .decode-text .ensures .0) ∙ c .before .enum-told .given .1) (refl, refl), c .before .before .before .before .before .decode-text .ensures .1)
+returns-4 c =
+    let e = sym (c .before .before .before .before .before .decode-text .ensures .0) ∙ c .before .enum-told .given .1 in
+    (rw e, (rw e, c .before .before .before .before .before .decode-text .ensures .1))
 
--- src/lib.rt:210:1
 same-length-5 : tie.Need-same-length-5
 same-length-5 c = search needs
 
--- src/lib.rt:210:1
 returns-5 : tie.Need-returns-5
-returns-5 c = (rw (sym (c .before .before .before .before .before .decode-text .ensures .0) ∙ c .before .enum-told2 .given .1) (refl, refl), c .before .before .before .before .before .decode-text .ensures .1)
+returns-5 c =
+    let e = sym (c .before .before .before .before .before .decode-text .ensures .0) ∙ c .before .enum-told2 .given .1 in
+    (rw e, (rw e, c .before .before .before .before .before .decode-text .ensures .1))
 
 pub dookerand-text-spec : {M : Type 1} → statement M
 dookerand-text-spec =
@@ -82,6 +80,7 @@ dookerand-text-spec =
     decode-text-requires
     enum-known-texted
     enum-known-texted-2
+    reject-requires
     enum-known-texted-3
     refuse-requires
     enum-told

@@ -10,99 +10,75 @@ use Rattle.worked.proofs.judge.Reads as judge-reads
 use Rattle.worked.proofs.longer.Reads as longer-reads
 use Rattle.worked.proofs.longest.Reads as longest-reads
 
--- src/main.rt:80:11
 slice-aggregate-judge : tie.Need-slice-aggregate-judge
 slice-aggregate-judge c = search needs
 
--- src/main.rt:80:18
 slice-aggregate-judge-2 : tie.Need-slice-aggregate-judge-2
 slice-aggregate-judge-2 c = search needs
 
--- src/main.rt:80:5
 judge-requires : tie.Need-judge-requires
 judge-requires c κs = search needs
 
--- src/main.rt:81:11
 slice-aggregate-judge-3 : tie.Need-slice-aggregate-judge-3
 slice-aggregate-judge-3 c = search needs
 
--- src/main.rt:81:35
 array-share-prefix-s : tie.Need-array-share-prefix-s
 array-share-prefix-s c = search needs
 
--- src/main.rt:81:35
 slice-aggregate-judge-4 : tie.Need-slice-aggregate-judge-4
 slice-aggregate-judge-4 c = search needs
 
--- src/main.rt:81:5
 judge-requires-2 : tie.Need-judge-requires-2
 judge-requires-2 c κs = search needs
 
--- src/main.rt:82:11
 slice-aggregate-judge-5 : tie.Need-slice-aggregate-judge-5
 slice-aggregate-judge-5 c = search needs
 
--- src/main.rt:82:37
 longer-requires : tie.Need-longer-requires
 longer-requires c κs = search needs
 
--- src/main.rt:82:36
 slice-aggregate-judge-6 : tie.Need-slice-aggregate-judge-6
 slice-aggregate-judge-6 c = search needs
 
--- src/main.rt:82:5
 judge-requires-3 : tie.Need-judge-requires-3
 judge-requires-3 c κs = search needs
 
--- src/main.rt:83:11
 slice-aggregate-judge-7 : tie.Need-slice-aggregate-judge-7
 slice-aggregate-judge-7 c = search needs
 
--- src/main.rt:83:22
 array-share-prefix-s-2 : tie.Need-array-share-prefix-s-2
 array-share-prefix-s-2 c = search needs
 
--- src/main.rt:83:22
 slice-aggregate-judge-8 : tie.Need-slice-aggregate-judge-8
 slice-aggregate-judge-8 c = search needs
 
--- src/main.rt:83:5
 judge-requires-4 : tie.Need-judge-requires-4
 judge-requires-4 c κs = search needs
 
--- src/main.rt:84:13
 longest-requires : tie.Need-longest-requires
 longest-requires c κs = search needs
 
--- src/main.rt:85:11
 slice-aggregate-judge-9 : tie.Need-slice-aggregate-judge-9
 slice-aggregate-judge-9 c = search needs
 
--- src/main.rt:85:28
 slice-aggregate-judge-10 : tie.Need-slice-aggregate-judge-10
 slice-aggregate-judge-10 c = search needs
 
--- src/main.rt:85:5
 judge-requires-5 : tie.Need-judge-requires-5
 judge-requires-5 c κs = search needs
 
--- src/main.rt:86:11
 slice-aggregate-judge-11 : tie.Need-slice-aggregate-judge-11
 slice-aggregate-judge-11 c = search needs
 
--- src/main.rt:86:40
 array-share-prefix-d : tie.Need-array-share-prefix-d
 array-share-prefix-d c = search needs
 
--- src/main.rt:86:40
 slice-aggregate-judge-12 : tie.Need-slice-aggregate-judge-12
 slice-aggregate-judge-12 c = sym (length-take-le 54283 (c .before .before .before .before .before .longest .result) (omega arith))
 
--- src/main.rt:86:5
 judge-requires-6 : tie.Need-judge-requires-6
 judge-requires-6 c κs = search needs
 
--- src/main.rt:78:1
 returns : tie.Need-returns
 returns c = search needs
 

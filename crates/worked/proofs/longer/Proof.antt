@@ -13,31 +13,24 @@ Inv-loop s d₀ i₀ d i = (i ≤ 216) × (length d ≡ 217)
 abbrev μ-loop : tie.MeasureT-loop
 μ-loop s d₀ i₀ d i = 216 - i
 
--- src/main.rt:49:5
 loop-holds : tie.Need-loop-holds Inv-loop μ-loop
 loop-holds c = (omega arith, simp length-replicate)
 
--- src/main.rt:50:16
 array-read-d : tie.Need-array-read-d Inv-loop μ-loop
 array-read-d c = omega arith
 
--- src/main.rt:50:9
 array-write-d : tie.Need-array-write-d Inv-loop μ-loop
 array-write-d c = omega arith
 
--- src/main.rt:49:9
 add-i : tie.Need-add-i Inv-loop μ-loop
 add-i c = omega arith
 
--- src/main.rt:49:5
 loop-less : tie.Need-loop-less Inv-loop μ-loop
 loop-less c = omega arith
 
--- src/main.rt:49:5
 loop-again : tie.Need-loop-again Inv-loop μ-loop
 loop-again c = (omega arith, simp length-set (c .before .loop .inv .1))
 
--- src/main.rt:44:1
 returns : tie.Need-returns Inv-loop μ-loop
 returns c = sym (c .before .loop .inv .1)
 

@@ -25,111 +25,84 @@ Inv-loop3 d₀ i₀ d i = (i ≤ 8192) × (length d ≡ 54284)
 abbrev μ-loop3 : tie.MeasureT-loop3
 μ-loop3 d₀ i₀ d i = 8192 - i
 
--- src/main.rt:60:5
 array-write-d : tie.Need-array-write-d Inv-loop μ-loop Inv-loop2 μ-loop2 Inv-loop3 μ-loop3
 array-write-d c = omega arith
 
--- src/main.rt:61:5
 array-write-d-2 : tie.Need-array-write-d-2 Inv-loop μ-loop Inv-loop2 μ-loop2 Inv-loop3 μ-loop3
 array-write-d-2 c = omega arith
 
--- src/main.rt:62:5
 array-write-d-3 : tie.Need-array-write-d-3 Inv-loop μ-loop Inv-loop2 μ-loop2 Inv-loop3 μ-loop3
 array-write-d-3 c = omega arith
 
--- src/main.rt:63:5
 array-write-d-4 : tie.Need-array-write-d-4 Inv-loop μ-loop Inv-loop2 μ-loop2 Inv-loop3 μ-loop3
 array-write-d-4 c = omega arith
 
--- src/main.rt:64:5
 array-write-d-5 : tie.Need-array-write-d-5 Inv-loop μ-loop Inv-loop2 μ-loop2 Inv-loop3 μ-loop3
 array-write-d-5 c = omega arith
 
--- src/main.rt:65:5
 array-write-d-6 : tie.Need-array-write-d-6 Inv-loop μ-loop Inv-loop2 μ-loop2 Inv-loop3 μ-loop3
 array-write-d-6 c = omega arith
 
--- src/main.rt:66:5
 loop-holds : tie.Need-loop-holds Inv-loop μ-loop Inv-loop2 μ-loop2 Inv-loop3 μ-loop3
 loop-holds c = (omega arith, simp (length-set, length-replicate))
 
--- src/main.rt:67:11
 mul-d : tie.Need-mul-d Inv-loop μ-loop Inv-loop2 μ-loop2 Inv-loop3 μ-loop3
 mul-d c = omega arith
 
--- src/main.rt:67:11
 add-d : tie.Need-add-d Inv-loop μ-loop Inv-loop2 μ-loop2 Inv-loop3 μ-loop3
 add-d c = omega arith
 
--- src/main.rt:67:9
 array-write-d-7 : tie.Need-array-write-d-7 Inv-loop μ-loop Inv-loop2 μ-loop2 Inv-loop3 μ-loop3
 array-write-d-7 c = omega arith
 
--- src/main.rt:66:9
 add-i : tie.Need-add-i Inv-loop μ-loop Inv-loop2 μ-loop2 Inv-loop3 μ-loop3
 add-i c = omega arith
 
--- src/main.rt:66:5
 loop-less : tie.Need-loop-less Inv-loop μ-loop Inv-loop2 μ-loop2 Inv-loop3 μ-loop3
 loop-less c = omega arith
 
--- src/main.rt:66:5
 loop-again : tie.Need-loop-again Inv-loop μ-loop Inv-loop2 μ-loop2 Inv-loop3 μ-loop3
 loop-again c = (omega arith, simp length-set (c .before .loop .inv .1))
 
--- src/main.rt:69:5
 loop2-holds : tie.Need-loop2-holds Inv-loop μ-loop Inv-loop2 μ-loop2 Inv-loop3 μ-loop3
 loop2-holds c = (omega arith, c .before .loop .inv .1)
 
--- src/main.rt:70:11
 mul-d-2 : tie.Need-mul-d-2 Inv-loop μ-loop Inv-loop2 μ-loop2 Inv-loop3 μ-loop3
 mul-d-2 c = omega arith
 
--- src/main.rt:70:11
 add-d-2 : tie.Need-add-d-2 Inv-loop μ-loop Inv-loop2 μ-loop2 Inv-loop3 μ-loop3
 add-d-2 c = omega arith
 
--- src/main.rt:70:9
 array-write-d-8 : tie.Need-array-write-d-8 Inv-loop μ-loop Inv-loop2 μ-loop2 Inv-loop3 μ-loop3
 array-write-d-8 c = omega arith
 
--- src/main.rt:69:9
 add-i-2 : tie.Need-add-i-2 Inv-loop μ-loop Inv-loop2 μ-loop2 Inv-loop3 μ-loop3
 add-i-2 c = omega arith
 
--- src/main.rt:69:5
 loop2-less : tie.Need-loop2-less Inv-loop μ-loop Inv-loop2 μ-loop2 Inv-loop3 μ-loop3
 loop2-less c = omega arith
 
--- src/main.rt:69:5
 loop2-again : tie.Need-loop2-again Inv-loop μ-loop Inv-loop2 μ-loop2 Inv-loop3 μ-loop3
 loop2-again c = (omega arith, simp length-set (c .before .loop2 .inv .1))
 
--- src/main.rt:72:5
 loop3-holds : tie.Need-loop3-holds Inv-loop μ-loop Inv-loop2 μ-loop2 Inv-loop3 μ-loop3
 loop3-holds c = (omega arith, c .before .loop2 .inv .1)
 
--- src/main.rt:73:11
 add-d-3 : tie.Need-add-d-3 Inv-loop μ-loop Inv-loop2 μ-loop2 Inv-loop3 μ-loop3
 add-d-3 c = omega arith
 
--- src/main.rt:73:9
 array-write-d-9 : tie.Need-array-write-d-9 Inv-loop μ-loop Inv-loop2 μ-loop2 Inv-loop3 μ-loop3
 array-write-d-9 c = omega arith
 
--- src/main.rt:72:9
 add-i-3 : tie.Need-add-i-3 Inv-loop μ-loop Inv-loop2 μ-loop2 Inv-loop3 μ-loop3
 add-i-3 c = omega arith
 
--- src/main.rt:72:5
 loop3-less : tie.Need-loop3-less Inv-loop μ-loop Inv-loop2 μ-loop2 Inv-loop3 μ-loop3
 loop3-less c = omega arith
 
--- src/main.rt:72:5
 loop3-again : tie.Need-loop3-again Inv-loop μ-loop Inv-loop2 μ-loop2 Inv-loop3 μ-loop3
 loop3-again c = (omega arith, simp length-set (c .before .loop3 .inv .1))
 
--- src/main.rt:56:1
 returns : tie.Need-returns Inv-loop μ-loop Inv-loop2 μ-loop2 Inv-loop3 μ-loop3
 returns c = sym (c .before .loop3 .inv .1)
 

@@ -8,104 +8,74 @@ use Rattle.worked.proofs.read.Lts as lts
 use Rattle.text_decoding.proofs.decode_text.Reads as decode-text-reads
 use Rattle.worked.proofs.line.Reads as line-reads
 use Rattle.worked.proofs.number.Reads as number-reads
+use Rattle.worked.proofs.rejected.Reads as rejected-reads
 
--- src/main.rt:426:5
 line-requires : tie.Need-line-requires
 line-requires c κs = search needs
 
--- src/main.rt:429:45
 slice-aggregate-decode-text : tie.Need-slice-aggregate-decode-text
 slice-aggregate-decode-text c = search needs
 
--- src/main.rt:429:58
 slice-aggregate-decode-text-2 : tie.Need-slice-aggregate-decode-text-2
 slice-aggregate-decode-text-2 c = search needs
 
--- src/main.rt:429:9
 decode-text-requires : tie.Need-decode-text-requires
 decode-text-requires c κs = search needs
 
--- src/main.rt:431:22
 enum-known-texted : tie.Need-enum-known-texted
 enum-known-texted c = search needs
 
--- src/main.rt:432:13
 number-requires : tie.Need-number-requires
 number-requires c κs = search needs
 
--- src/main.rt:433:18
 slice-aggregate-line : tie.Need-slice-aggregate-line
 slice-aggregate-line c = search needs
 
--- src/main.rt:433:13
 line-requires-2 : tie.Need-line-requires-2
 line-requires-2 c κs = search needs
 
--- src/main.rt:435:22
 array-share-prefix-text : tie.Need-array-share-prefix-text
 array-share-prefix-text c = search needs
 
--- src/main.rt:435:22
 slice-aggregate-line-2 : tie.Need-slice-aggregate-line-2
 slice-aggregate-line-2 c = sym (length-take-le _ _ (rw (c .before .before .before .before .before .before .before .before .before .decode-text .kept .1 .1 .1 .0) (c .before .if1 .taken)))
 
--- src/main.rt:435:17
 line-requires-3 : tie.Need-line-requires-3
 line-requires-3 c κs = search needs
 
--- src/main.rt:438:29
 enum-known-texted-2 : tie.Need-enum-known-texted-2
 enum-known-texted-2 c = search needs
 
--- src/main.rt:439:13
-number-requires-2 : tie.Need-number-requires-2
-number-requires-2 c κs = search needs
+rejected-requires : tie.Need-rejected-requires
+rejected-requires c κs = search needs
 
--- src/main.rt:440:13
-number-requires-3 : tie.Need-number-requires-3
-number-requires-3 c κs = search needs
-
--- src/main.rt:441:13
-number-requires-4 : tie.Need-number-requires-4
-number-requires-4 c κs = search needs
-
--- src/main.rt:443:36
 enum-told : tie.Need-enum-told
 enum-told c = search needs
 
--- src/main.rt:443:36
 slice-aggregate-line-3 : tie.Need-slice-aggregate-line-3
 slice-aggregate-line-3 c = search needs
 
--- src/main.rt:443:31
 line-requires-4 : tie.Need-line-requires-4
 line-requires-4 c κs = search needs
 
--- src/main.rt:444:25
 enum-told-2 : tie.Need-enum-told-2
 enum-told-2 c = search needs
 
--- src/main.rt:444:25
-number-requires-5 : tie.Need-number-requires-5
-number-requires-5 c κs = search needs
+number-requires-2 : tie.Need-number-requires-2
+number-requires-2 c κs = search needs
 
--- src/main.rt:445:27
 enum-told-3 : tie.Need-enum-told-3
 enum-told-3 c = search needs
 
--- src/main.rt:445:27
-number-requires-6 : tie.Need-number-requires-6
-number-requires-6 c κs = search needs
+number-requires-3 : tie.Need-number-requires-3
+number-requires-3 c κs = search needs
 
--- src/main.rt:447:10
 slice-aggregate-line-4 : tie.Need-slice-aggregate-line-4
 slice-aggregate-line-4 c = search needs
 
--- src/main.rt:447:5
 line-requires-5 : tie.Need-line-requires-5
 line-requires-5 c κs = search needs
 
--- src/main.rt:425:1
 returns : tie.Need-returns
 returns c = search needs
 
@@ -125,16 +95,14 @@ read-spec =
     slice-aggregate-line-2
     line-requires-3
     enum-known-texted-2
-    number-requires-2
-    number-requires-3
-    number-requires-4
+    rejected-requires
     enum-told
     slice-aggregate-line-3
     line-requires-4
     enum-told-2
-    number-requires-5
+    number-requires-2
     enum-told-3
-    number-requires-6
+    number-requires-3
     slice-aggregate-line-4
     line-requires-5
     returns)

@@ -8,73 +8,51 @@ use Rattle.worked.proofs.sweep_of.Lts as lts
 use Rattle.sweeping.proofs.sweep.Reads as sweep-reads
 use Rattle.worked.proofs.line.Reads as line-reads
 use Rattle.worked.proofs.number.Reads as number-reads
+use Rattle.worked.proofs.rejected.Reads as rejected-reads
 use Rattle.worked.proofs.why_ended.Reads as why-ended-reads
 
--- src/main.rt:460:5
 line-requires : tie.Need-line-requires
 line-requires c κs = search needs
 
--- src/main.rt:465:37
 slice-aggregate-sweep : tie.Need-slice-aggregate-sweep
 slice-aggregate-sweep c = search needs
 
--- src/main.rt:465:44
 slice-aggregate-sweep-2 : tie.Need-slice-aggregate-sweep-2
 slice-aggregate-sweep-2 c = search needs
 
--- src/main.rt:465:51
 array-borrow-prefix-rows : tie.Need-array-borrow-prefix-rows
 array-borrow-prefix-rows c = search needs
 
--- src/main.rt:465:51
 slice-aggregate-sweep-3 : tie.Need-slice-aggregate-sweep-3
 slice-aggregate-sweep-3 c = sym (length-take-le _ _ (c .before .before .before .if1 .taken))
 
--- src/main.rt:465:13
 sweep-requires : tie.Need-sweep-requires
 sweep-requires c κs = search needs
 
--- src/main.rt:468:17
 enum-known-swept : tie.Need-enum-known-swept
 enum-known-swept c = search needs
 
--- src/main.rt:472:17
 why-ended-requires : tie.Need-why-ended-requires
 why-ended-requires c κs = search needs
 
--- src/main.rt:473:17
 number-requires : tie.Need-number-requires
 number-requires c κs = search needs
 
--- src/main.rt:474:17
 number-requires-2 : tie.Need-number-requires-2
 number-requires-2 c κs = search needs
 
--- src/main.rt:476:32
 enum-known-swept-2 : tie.Need-enum-known-swept-2
 enum-known-swept-2 c = search needs
 
--- src/main.rt:477:17
-number-requires-3 : tie.Need-number-requires-3
-number-requires-3 c κs = search needs
+rejected-requires : tie.Need-rejected-requires
+rejected-requires c κs = search needs
 
--- src/main.rt:478:17
-number-requires-4 : tie.Need-number-requires-4
-number-requires-4 c κs = search needs
-
--- src/main.rt:479:17
-number-requires-5 : tie.Need-number-requires-5
-number-requires-5 c κs = search needs
-
--- src/main.rt:483:10
 slice-aggregate-line : tie.Need-slice-aggregate-line
 slice-aggregate-line c = search needs
 
--- src/main.rt:483:5
 line-requires-2 : tie.Need-line-requires-2
 line-requires-2 c κs = search needs
 
--- src/main.rt:459:1
 returns : tie.Need-returns
 returns c = search needs
 
@@ -93,9 +71,7 @@ sweep-of-spec =
     number-requires
     number-requires-2
     enum-known-swept-2
-    number-requires-3
-    number-requires-4
-    number-requires-5
+    rejected-requires
     slice-aggregate-line
     line-requires-2
     returns)

@@ -1,0 +1,55 @@
+-- `dookerand::dookerand_list` meets its contract. Assumes nothing.
+use mathlib.Core.Path.{sym, _∙_}
+use borrow.Author.Needs.{needs}
+use Rattle.dookerand.proofs.dookerand_list.Statement.{statement}
+use Rattle.dookerand.proofs.dookerand_list.Tie as tie
+use Rattle.dookerand.proofs.dookerand_list.Reads as reads
+use Rattle.dookerand.proofs.dookerand_list.Lts as lts
+use Rattle.dookerand.proofs.full_number.Reads as full-number-reads
+use Rattle.dookerand.proofs.reject.Reads as reject-reads
+use Rattle.listing_text.proofs.list.Reads as list-reads
+
+list-requires : tie.Need-list-requires
+list-requires c κs = search needs
+
+enum-known-listed : tie.Need-enum-known-listed
+enum-known-listed c = search needs
+
+full-number-requires : tie.Need-full-number-requires
+full-number-requires c κs = search needs
+
+enum-known-listed-2 : tie.Need-enum-known-listed-2
+enum-known-listed-2 c = search needs
+
+reject-requires : tie.Need-reject-requires
+reject-requires c κs = search needs
+
+same-length : tie.Need-same-length
+same-length c = search needs
+
+returns : tie.Need-returns
+returns c =
+    let e = sym (c .before .before .before .before .before .before .before .list .ensures .0) ∙ c .before .before .before .listed .given .1 in
+    (rw e, (rw (e, c .before .full-number .ensures), c .before .before .before .before .before .before .before .list .ensures .1))
+
+same-length-2 : tie.Need-same-length-2
+same-length-2 c = search needs
+
+returns-2 : tie.Need-returns-2
+returns-2 c =
+    let e = sym (c .before .before .before .before .before .before .before .list .ensures .0) ∙ c .before .before .before .listed2 .given .1 in
+    (rw e (c .reject .ensures .0), (rw e (c .reject .ensures .1), c .before .before .before .before .before .before .before .list .ensures .1))
+
+pub dookerand-list-spec : {M : Type 1} → statement M
+dookerand-list-spec =
+    tie.close
+    (tie.spec
+    list-requires
+    enum-known-listed
+    full-number-requires
+    enum-known-listed-2
+    reject-requires
+    same-length
+    returns
+    same-length-2
+    returns-2)
