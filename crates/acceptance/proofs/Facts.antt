@@ -3,7 +3,7 @@ use mathlib.Core.List.{List}
 use mathlib.Core.Path.{_≡_, refl, ap, _∙_}
 use native.Mathlib.Omega.{arith}
 use Prim.Native.Nat.{ℕ}
-use Rattle.format.specs.Check.{checkOf, Formed}
+use Rattle.format.specs.Check.{checkOf, WellFormed}
 use Rattle.format.specs.declared.Checked.{Checked}
 use Rattle.format.specs.declared.Checked.the-variants.{Good, Fault}
 use Rattle.format.specs.declared.Layout.{Layout}
@@ -19,5 +19,5 @@ accepted-good b l e = go (checkOf b) e
     go (Good m) q = let z : m ≡ l = cc in ap Good z
     go (Fault k i) q = let z : _≡_ {A = ℕ} 0 1 = cc in absurd (omega arith)
 
-pub accepted-formed : (b : List ℕ) (l : Layout) → acceptanceOf b ≡ Accepted l → Formed b l
+pub accepted-formed : (b : List ℕ) (l : Layout) → acceptanceOf b ≡ Accepted l → WellFormed b l
 accepted-formed b l e = formed b l (accepted-good b l e)

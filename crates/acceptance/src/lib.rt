@@ -18,7 +18,7 @@ pub enum Acceptance {
 pub fn accept(desc: &[u8]) -> Acceptance
     ensures { λ r. ⌜ r ≡ acceptanceOf (now (desc .entry)) ⌝ }
 {
-    let checked = description::check(desc);
+    let checked = validation::check(desc);
     match checked {
         Checked::Good(layout) => Acceptance::Accepted(layout),
         Checked::Fault { section, record } => Acceptance::Rejected(Rejection {

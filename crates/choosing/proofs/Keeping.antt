@@ -13,8 +13,8 @@ use Rattle.format.specs.declared.Pattern.{Pattern}
 use Rattle.patterns.specs.Relations.{inside}
 use Rattle.patterns.specs.Words.{wordsAgree, wordsWhole}
 use Rattle.patterns.specs.declared.Input.{Input}
-use Rattle.choosing_facts.proofs.Inside.{inside-trans}
-use Rattle.choosing.specs.Scan.{met, clears, wordShort, wordMatch, Inmost, Kept}
+use Rattle.choosing_theorems.proofs.Inside.{inside-trans}
+use Rattle.choosing.specs.Scan.{withMatch, clears, wordShort, wordMatch, Inmost, ScanState}
 use Rattle.choosing.specs.declared.Best.{Best}
 
 pub neither : (a b : Bool) → (a || b) ≡ false → (a ≡ false) × (b ≡ false)
@@ -27,7 +27,7 @@ deny true f = absurd (f refl)
 deny false f = refl
 
 module _ (at : ℕ → Pattern) (hit : ℕ → Bool) (n : ℕ) where
-  pub kept-none : Kept at hit n 0 (record { found = false; doubt = false; at = 0 })
+  pub kept-none : ScanState at hit n 0 (record { found = false; unsure = false; at = 0 })
   kept-none =
       record {
         some = sym (any-none hit);
@@ -37,7 +37,7 @@ module _ (at : ℕ → Pattern) (hit : ℕ → Bool) (n : ℕ) where
       }
 
   -- a record that does not match changes nothing
-  pub kept-skip : (j : ℕ) (b : Best) → hit j ≡ false → Kept at hit n j b → Kept at hit n (j + 1) b
+  pub kept-skip : (j : ℕ) (b : Best) → hit j ≡ false → ScanState at hit n j b → ScanState at hit n (j + 1) b
   kept-skip j b e k =
       record {
         some = rw (any-more hit j, e, or-no) (k .some);
@@ -59,12 +59,12 @@ module _ (at : ℕ → Pattern) (hit : ℕ → Bool) (n : ℕ) where
           go (yes q) = absurd (false≢true (sym (rw (sym q) at e) ∙ y))
           go (no q) = omega arith
 
-  module _ (j : ℕ) (b : Best) (hits : hit j ≡ true) (k : Kept at hit n j b) (l : j < n) where
+  module _ (j : ℕ) (b : Best) (hits : hit j ≡ true) (k : ScanState at hit n j b) (l : j < n) where
     -- the record that is taken up, or kept, is the inner one of the two
     some-more : true ≡ anyBelow (j + 1) hit
     some-more = rw (any-more hit j, hits, or-yes)
 
-    pub kept-first : b .found ≡ false → Kept at hit n (j + 1) (record { found = true; doubt = false; at = j })
+    pub kept-first : b .found ≡ false → ScanState at hit n (j + 1) (record { found = true; unsure = false; at = j })
     kept-first f =
         record {
           some = some-more;
@@ -81,13 +81,13 @@ module _ (at : ℕ → Pattern) (hit : ℕ → Bool) (n : ℕ) where
         go t h m (no q) = absurd (none t (omega arith) (m .hits))
 
     pub kept-inner : b .found ≡ true → inside (at j) (at (b .at)) ≡ true
-        → Kept at hit n (j + 1) (record { found = true; doubt = b .doubt || inside (at (b .at)) (at j); at = j })
+        → ScanState at hit n (j + 1) (record { found = true; unsure = b .unsure || inside (at (b .at)) (at j); at = j })
     kept-inner f e =
         record {
           some = some-more;
           best = λ _. (omega arith, hits);
           sure = λ _ d.
-              let r = neither (b .doubt) (inside (at (b .at)) (at j)) d in
+              let r = neither (b .unsure) (inside (at (b .at)) (at j)) d in
               record {
                 within = omega arith;
                 hits = hits;
@@ -112,13 +112,13 @@ module _ (at : ℕ → Pattern) (hit : ℕ → Bool) (n : ℕ) where
             absurd (false≢true (sym (m .above j l (λ z. q (sym z)) hits .1) ∙ rw r at e))
 
     pub kept-outer : b .found ≡ true → inside (at j) (at (b .at)) ≡ false
-        → Kept at hit n (j + 1) (record { found = true; doubt = b .doubt || not (inside (at (b .at)) (at j)); at = b .at })
+        → ScanState at hit n (j + 1) (record { found = true; unsure = b .unsure || not (inside (at (b .at)) (at j)); at = b .at })
     kept-outer f e =
         record {
           some = some-more;
           best = λ _. (omega (arith, k .best f .0), k .best f .1);
           sure = λ _ d.
-              let r = neither (b .doubt) (not (inside (at (b .at)) (at j))) d in
+              let r = neither (b .unsure) (not (inside (at (b .at)) (at j))) d in
               let s = k .sure f (r .0) in
               record {
                 within = omega (arith, s .within);
@@ -140,16 +140,16 @@ module _ (at : ℕ → Pattern) (hit : ℕ → Bool) (n : ℕ) where
             absurd (false≢true (sym e ∙ rw q at (r .0)))
         go t h m (no q) = k .held t (omega arith) m .1
 
-    pub kept-met : Kept at hit n (j + 1) (met at b j)
-    unfolding met
-    kept-met = go (b .found) refl (inside (at j) (at (b .at))) refl
+    pub kept-withMatch : ScanState at hit n (j + 1) (withMatch at b j)
+    unfolding withMatch
+    kept-withMatch = go (b .found) refl (inside (at j) (at (b .at))) refl
       where
         go : (f : Bool) → b .found ≡ f → (i : Bool) → inside (at j) (at (b .at)) ≡ i
-            → Kept at hit n (j + 1)
+            → ScanState at hit n (j + 1)
             (cond f
-            (cond i (record { found = true; doubt = b .doubt || inside (at (b .at)) (at j); at = j })
-            (record { found = true; doubt = b .doubt || not (inside (at (b .at)) (at j)); at = b .at }))
-            (record { found = true; doubt = false; at = j }))
+            (cond i (record { found = true; unsure = b .unsure || inside (at (b .at)) (at j); at = j })
+            (record { found = true; unsure = b .unsure || not (inside (at (b .at)) (at j)); at = b .at }))
+            (record { found = true; unsure = false; at = j }))
         go true f true i = kept-inner f i
         go true f false i = kept-outer f i
         go false f i e = kept-first f
@@ -158,16 +158,16 @@ module _ (at : ℕ → Pattern) (hit : ℕ → Bool) (n : ℕ) where
 pub none-more : (f : ℕ → Bool) (j : ℕ) → anyBelow j f ≡ false → f j ≡ false → anyBelow (j + 1) f ≡ false
 none-more f j p q = rw (any-more f j, p, q)
 
--- `met` by the patterns that were read
+-- `withMatch` by the patterns that were read
 module _ (at : ℕ → Pattern) (b : Best) (j : ℕ) (p q : Pattern) (o : Bool)
     (f : b .found ≡ true) (e : p ≡ at j) (g : q ≡ at (b .at)) (x : o ≡ inside q p) where
-  pub met-inner : inside p q ≡ true → _≡_ {A = Best} (record { found = true; doubt = b .doubt || o; at = j }) (met at b j)
-  unfolding met
-  met-inner i = rw (f, ← e, ← g, i, x)
+  pub withMatch-inner : inside p q ≡ true → _≡_ {A = Best} (record { found = true; unsure = b .unsure || o; at = j }) (withMatch at b j)
+  unfolding withMatch
+  withMatch-inner i = rw (f, ← e, ← g, i, x)
 
-  pub met-outer : inside p q ≡ false → _≡_ {A = Best} (record { found = true; doubt = b .doubt || not o; at = b .at }) (met at b j)
-  unfolding met
-  met-outer i = rw (f, ← e, ← g, i, x)
+  pub withMatch-outer : inside p q ≡ false → _≡_ {A = Best} (record { found = true; unsure = b .unsure || not o; at = b .at }) (withMatch at b j)
+  unfolding withMatch
+  withMatch-outer i = rw (f, ← e, ← g, i, x)
 
 -- record j by the pattern that was read
 module _ (at : ℕ → Pattern) (i : Input) (j : ℕ) (p : Pattern) (e : p ≡ at j) where

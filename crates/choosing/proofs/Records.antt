@@ -9,18 +9,18 @@ use Rattle.lists.proofs.Below.{any-found}
 use Rattle.format.specs.Description.{Description}
 use Rattle.format.specs.Tables.{tableFirst, tableEnd}
 use Rattle.format.specs.declared.Pattern.{Pattern}
-use Rattle.format.proofs.Formation.{Obeyed}
+use Rattle.format.proofs.Formation.{RulesHold}
 use Rattle.format.proofs.Tables.{in-table, of-table, end-within}
 use Rattle.patterns.specs.Matching.{matches}
 use Rattle.patterns.specs.Relations.{inside}
-use Rattle.choice.specs.Choosing.{matching, innermost}
-use Rattle.choice.specs.declared.Choice.the-variants.{Short, NoMatch, Taken}
-use Rattle.choosing_facts.specs.Taken.{Strict}
-use Rattle.choosing_facts.proofs.Taken.{Below, inner, inner-matches, inner-below, lone-strict, Answer, cut, none, one, torn, answer, choose-taken, taken-strict, no-match}
-use Rattle.choosing.specs.Table.{patternFrom, chooseIn}
-use Rattle.choosing.specs.Records.{patternOf, MatchesIn, InmostIn, TakenIn, NoneIn}
+use Rattle.choosing_spec.specs.Choosing.{matching, innermost}
+use Rattle.choosing_spec.specs.declared.Choice.the-variants.{Short, NoMatch, Taken}
+use Rattle.choosing_theorems.specs.Taken.{Strict}
+use Rattle.choosing_theorems.proofs.Taken.{Below, inner, inner-matches, inner-below, lone-strict, Answer, cut, none, one, torn, answer, choose-taken, taken-strict, no-match}
+use Rattle.choosing_spec.specs.Table.{patternFrom, chooseIn}
+use Rattle.choosing_spec.specs.Records.{patternOf, MatchesIn, InmostIn, TakenIn, NoneIn}
 
-module _ (d : Description) (o : Obeyed d) (t : ℕ) (s : List ℕ) (c : ℕ) where
+module _ (d : Description) (o : RulesHold d) (t : ℕ) (s : List ℕ) (c : ℕ) where
   abbrev first : ℕ
   first = tableFirst d t
 

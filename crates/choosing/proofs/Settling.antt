@@ -18,14 +18,14 @@ use Rattle.patterns.specs.Words.{Small, inputOf}
 use Rattle.patterns.specs.declared.Input.{Input}
 use Rattle.patterns.proofs.Bytes.{Holds, long-small, quad-small, input-holds}
 use Rattle.patterns.proofs.Words.{agrees-is, whole-is, matches-is}
-use Rattle.choice.specs.Choosing.{choose, short, matching}
-use Rattle.choice.specs.declared.Choice.{Choice}
-use Rattle.choice.specs.declared.Choice.the-variants.{Short, NoMatch, Taken, Ambiguous}
-use Rattle.choosing_facts.specs.Taken.{Strict}
-use Rattle.choosing_facts.proofs.None.{none-at}
-use Rattle.choosing_facts.proofs.Taken.{choose-short, choose-taken, choose-ambiguous, no-match-back}
-use Rattle.choosing.specs.Table.{patternFrom}
-use Rattle.choosing.specs.Scan.{wordShort, wordMatch, Inmost, Settles}
+use Rattle.choosing_spec.specs.Choosing.{choose, short, matching}
+use Rattle.choosing_spec.specs.declared.Choice.{Choice}
+use Rattle.choosing_spec.specs.declared.Choice.the-variants.{Short, NoMatch, Taken, Ambiguous}
+use Rattle.choosing_theorems.specs.Taken.{Strict}
+use Rattle.choosing_theorems.proofs.None.{none-at}
+use Rattle.choosing_theorems.proofs.Taken.{choose-short, choose-taken, choose-ambiguous, no-match-back}
+use Rattle.choosing_spec.specs.Table.{patternFrom}
+use Rattle.choosing.specs.Scan.{wordShort, wordMatch, Inmost, ChoiceHolds}
 
 -- a description's patterns fit their words
 module _ (b : List ℕ) (l : Layout) (bytes : (i : ℕ) → getD b i 0 < 256) where
@@ -88,7 +88,7 @@ module _ (at : ℕ → Pattern) (n : ℕ) (s : List ℕ) (c : ℕ) (i : Input) (
       let r = any-found (wordShort at i) n e in
       sym (choose-short at n s c (r .0) (r .1) (sym (short-is (r .0)) ∙ r .2))
 
-  pub settled : anyBelow n (wordShort at i) ≡ false → (r : Choice) → Settles at (wordMatch at i) n r → r ≡ choose at n s c
+  pub settled : anyBelow n (wordShort at i) ≡ false → (r : Choice) → ChoiceHolds at (wordMatch at i) n r → r ≡ choose at n s c
   settled e Short m = absurd m
   settled e NoMatch m =
       sym (no-match-back at n s c (λ j h. (sym (match-is j) ∙ none-at (wordMatch at i) n m j h, sym (short-is j) ∙ none-at (wordShort at i) n e j h)))

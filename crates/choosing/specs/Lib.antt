@@ -1,4 +1,3 @@
 -- Choosing in a table of a description, and what the scan knows on its way.
-pub mod Table
-pub mod Records
 pub mod Scan
+pub mod Patterns

@@ -8,11 +8,11 @@ use Rattle.format.specs.declared.Pattern.{Pattern}
 use Rattle.patterns.specs.Relations.{inside}
 use Rattle.patterns.specs.Words.{wordsAgree, wordsWhole}
 use Rattle.patterns.specs.declared.Input.{Input}
-use Rattle.choice.specs.declared.Choice.{Choice}
-use Rattle.choice.specs.declared.Choice.the-variants.{Short, NoMatch, Taken, Ambiguous}
+use Rattle.choosing_spec.specs.declared.Choice.{Choice}
+use Rattle.choosing_spec.specs.declared.Choice.the-variants.{Short, NoMatch, Taken, Ambiguous}
 use Rattle.choosing.specs.declared.Best.{Best}
 use Rattle.choosing.specs.declared.Scanned.{Scanned}
-use Rattle.choosing.specs.declared.Scanned.the-variants.{Cut, All}
+use Rattle.choosing.specs.declared.Scanned.the-variants.{CutOff, Complete}
 
 -- record j, by the input's words: it masks a missing bit and agrees with all others; it matches
 abbrev pub wordShort : (ℕ → Pattern) → Input → ℕ → Bool
@@ -21,14 +21,14 @@ wordShort at i j = wordsAgree (at j) i && not (wordsWhole (at j) i)
 abbrev pub wordMatch : (ℕ → Pattern) → Input → ℕ → Bool
 wordMatch at i j = wordsAgree (at j) i && wordsWhole (at j) i
 
--- one more matching record: the inner one of the two is kept; where neither or each lies inside the other, that is in doubt
-unfoldable pub met : (ℕ → Pattern) → Best → ℕ → Best
-met at b j =
+-- one more matching record: the inner one of the two is kept; where neither or each lies inside the other, that is in unsure
+unfoldable pub withMatch : (ℕ → Pattern) → Best → ℕ → Best
+withMatch at b j =
     cond (b .found)
     (cond (inside (at j) (at (b .at)))
-    (record { found = true; doubt = b .doubt || inside (at (b .at)) (at j); at = j })
-    (record { found = true; doubt = b .doubt || not (inside (at (b .at)) (at j)); at = b .at }))
-    (record { found = true; doubt = false; at = j })
+    (record { found = true; unsure = b .unsure || inside (at (b .at)) (at j); at = j })
+    (record { found = true; unsure = b .unsure || not (inside (at (b .at)) (at j)); at = b .at }))
+    (record { found = true; unsure = false; at = j })
 
 -- record t matches, lies inside every other matching one, and none of those lies inside it
 pub record Inmost (at : ℕ → Pattern) (hit : ℕ → Bool) (n t : ℕ) : Type 0 where
@@ -37,20 +37,20 @@ pub record Inmost (at : ℕ → Pattern) (hit : ℕ → Bool) (n t : ℕ) : Type
   pub above : (j : ℕ) → j < n → (j ≡ t → ⊥) → hit j ≡ true → (inside (at t) (at j) ≡ true) × (inside (at j) (at t) ≡ false)
 
 -- what is known after the first j of n records
-pub record Kept (at : ℕ → Pattern) (hit : ℕ → Bool) (n j : ℕ) (b : Best) : Type 0 where
+pub record ScanState (at : ℕ → Pattern) (hit : ℕ → Bool) (n j : ℕ) (b : Best) : Type 0 where
   pub some : b .found ≡ anyBelow j hit
   pub best : b .found ≡ true → (b .at < j) × (hit (b .at) ≡ true)
-  pub sure : b .found ≡ true → b .doubt ≡ false → Inmost at hit j (b .at)
+  pub sure : b .found ≡ true → b .unsure ≡ false → Inmost at hit j (b .at)
   pub held : (t : ℕ) → t < j → Inmost at hit n t → (b .found ≡ true) × (b .at ≡ t)
 
 -- what is known of the records that match after a whole pass
 abbrev pub Passed : (ℕ → Pattern) → Input → ℕ → Best → Type 0
-Passed at i n b = Kept at (wordMatch at i) n n b
+Passed at i n b = ScanState at (wordMatch at i) n n b
 
 -- what a whole pass tells
-abbrev pub Tells : (ℕ → Pattern) → Input → ℕ → Scanned → Type 0
-Tells at i n Cut = anyBelow n (wordShort at i) ≡ true
-Tells at i n (All b) = (anyBelow n (wordShort at i) ≡ false) × Passed at i n b
+abbrev pub ScanResult : (ℕ → Pattern) → Input → ℕ → Scanned → Type 0
+ScanResult at i n CutOff = anyBelow n (wordShort at i) ≡ true
+ScanResult at i n (Complete b) = (anyBelow n (wordShort at i) ≡ false) × Passed at i n b
 
 -- record j does not stand in the way of record t: it is t, or does not match, or t lies inside it and not it inside t
 unfoldable pub clears : (ℕ → Pattern) → (ℕ → Bool) → ℕ → ℕ → Bool
@@ -60,11 +60,11 @@ abbrev pub clearsAll : (ℕ → Pattern) → Input → ℕ → ℕ → Bool
 clearsAll at i n t = allBelow n (clears at (wordMatch at i) t)
 
 -- what the records that match settle, where none is short
-abbrev pub Settles : (ℕ → Pattern) → (ℕ → Bool) → ℕ → Choice → Type 0
-Settles at hit n Short = ⊥
-Settles at hit n NoMatch = anyBelow n hit ≡ false
-Settles at hit n (Taken t) = Inmost at hit n t
-Settles at hit n Ambiguous = (anyBelow n hit ≡ true) × ((t : ℕ) → Inmost at hit n t → ⊥)
+abbrev pub ChoiceHolds : (ℕ → Pattern) → (ℕ → Bool) → ℕ → Choice → Type 0
+ChoiceHolds at hit n Short = ⊥
+ChoiceHolds at hit n NoMatch = anyBelow n hit ≡ false
+ChoiceHolds at hit n (Taken t) = Inmost at hit n t
+ChoiceHolds at hit n Ambiguous = (anyBelow n hit ≡ true) × ((t : ℕ) → Inmost at hit n t → ⊥)
 
-abbrev pub SettlesBy : (ℕ → Pattern) → Input → ℕ → Choice → Type 0
-SettlesBy at i n r = Settles at (wordMatch at i) n r
+abbrev pub ChoiceOf : (ℕ → Pattern) → Input → ℕ → Choice → Type 0
+ChoiceOf at i n r = ChoiceHolds at (wordMatch at i) n r

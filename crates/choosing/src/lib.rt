@@ -1,5 +1,5 @@
 // Choosing in a table of a well-formed description: one pass over the table's patterns, on machine words.
-use choice::Choice;
+use choosing_spec::Choice;
 use format::Layout;
 use format::Pattern;
 use patterns::Input;
@@ -7,26 +7,27 @@ use tables::Table;
 ghost use mathlib.Core.Bool.{true};
 ghost use mathlib.Core.Path.{_≡_};
 ghost use Prim.Native.Nat.{_+_, _<_, _≤_};
-ghost use Rattle.format.specs.Layout.{Room};
+ghost use Rattle.format.specs.Layout.{SectionsInBounds};
 ghost use Rattle.format.specs.Description.{description};
-ghost use Rattle.choice.specs.Choosing.{choose};
-ghost use Rattle.choosing.specs.Table.{patternFrom, patternsOf};
-ghost use Rattle.choosing.specs.Scan.{met, clearsAll, Tells, Passed, SettlesBy};
+ghost use Rattle.choosing_spec.specs.Choosing.{choose};
+ghost use Rattle.choosing_spec.specs.Table.{patternFrom};
+ghost use Rattle.choosing.specs.Patterns.{patternsOf};
+ghost use Rattle.choosing.specs.Scan.{withMatch, clearsAll, ScanResult, Passed, ChoiceOf};
 
-// What a pass has found so far: whether a record matches, the one that lies inside the others, and whether that is in doubt.
+// What a pass has found so far: whether a record matches, the one that lies inside the others, and whether that is in unsure.
 pub struct Best {
     pub found: bool,
-    pub doubt: bool,
+    pub unsure: bool,
     pub at: usize,
 }
 
 pub enum Scanned {
-    Cut,
-    All(Best),
+    CutOff,
+    Complete(Best),
 }
 
 pub fn row(desc: &[u8], layout: Layout, first: usize, j: usize) -> Pattern
-    requires { ⌜ Room (now desc) layout ⌝ }
+    requires { ⌜ SectionsInBounds (now desc) layout ⌝ }
     requires { ⌜ first + j < layout .constructors .count ⌝ }
     ensures { λ r. ⌜ r ≡ patternFrom (description (now (desc .entry)) layout) first j ⌝ }
 {
@@ -34,11 +35,11 @@ pub fn row(desc: &[u8], layout: Layout, first: usize, j: usize) -> Pattern
 }
 
 // One more matching record, with its pattern.
-fn meet(desc: &[u8], layout: Layout, first: usize, best: Best, j: usize, p: Pattern) -> Best
-    requires { ⌜ Room (now desc) layout ⌝ }
+fn with_match(desc: &[u8], layout: Layout, first: usize, best: Best, j: usize, p: Pattern) -> Best
+    requires { ⌜ SectionsInBounds (now desc) layout ⌝ }
     requires { ⌜ (best .found ≡ true → first + best .at < layout .constructors .count) ⌝ }
     requires { ⌜ p ≡ patternFrom (description (now desc) layout) first j ⌝ }
-    ensures { λ r. ⌜ r ≡ met (patternFrom (description (now (desc .entry)) layout) first) best j ⌝ }
+    ensures { λ r. ⌜ r ≡ withMatch (patternFrom (description (now (desc .entry)) layout) first) best j ⌝ }
 {
     if best.found {
         let q = row(desc, layout, first, best.at);
@@ -46,31 +47,31 @@ fn meet(desc: &[u8], layout: Layout, first: usize, best: Best, j: usize, p: Patt
         if patterns::lies_inside(p, q) {
             return Best {
                 found: true,
-                doubt: best.doubt | outer,
+                unsure: best.unsure | outer,
                 at: j,
             };
         }
         return Best {
             found: true,
-            doubt: best.doubt | !outer,
+            unsure: best.unsure | !outer,
             at: best.at,
         };
     }
     Best {
         found: true,
-        doubt: false,
+        unsure: false,
         at: j,
     }
 }
 
 fn scan(desc: &[u8], layout: Layout, table: Table, input: Input) -> Scanned
-    requires { ⌜ Room (now desc) layout ⌝ }
+    requires { ⌜ SectionsInBounds (now desc) layout ⌝ }
     requires { ⌜ table .first + table .count ≤ layout .constructors .count ⌝ }
-    ensures { λ r. ⌜ Tells (patternsOf (now (desc .entry)) layout table) input (table .count) r ⌝ }
+    ensures { λ r. ⌜ ScanResult (patternsOf (now (desc .entry)) layout table) input (table .count) r ⌝ }
 {
     let mut best = Best {
         found: false,
-        doubt: false,
+        unsure: false,
         at: 0,
     };
     let mut next = 0;
@@ -80,17 +81,17 @@ fn scan(desc: &[u8], layout: Layout, table: Table, input: Input) -> Scanned
         let p = row(desc, layout, table.first, j);
         if patterns::agrees(p, input) {
             if patterns::whole(p, input) {
-                best = meet(desc, layout, table.first, best, j, p);
+                best = with_match(desc, layout, table.first, best, j, p);
             } else {
-                return Scanned::Cut;
+                return Scanned::CutOff;
             }
         }
     }
-    Scanned::All(best)
+    Scanned::Complete(best)
 }
 
 fn clears_all(desc: &[u8], layout: Layout, table: Table, input: Input, t: usize) -> bool
-    requires { ⌜ Room (now desc) layout ⌝ }
+    requires { ⌜ SectionsInBounds (now desc) layout ⌝ }
     requires { ⌜ table .first + table .count ≤ layout .constructors .count ⌝ }
     requires { ⌜ t < table .count ⌝ }
     ensures { λ r. ⌜ r ≡ clearsAll (patternsOf (now (desc .entry)) layout table) input (table .count) t ⌝ }
@@ -110,15 +111,15 @@ fn clears_all(desc: &[u8], layout: Layout, table: Table, input: Input, t: usize)
     true
 }
 
-// Where the pass left no doubt, its record is taken; else every record is looked at once more.
+// Where the pass left no unsure, its record is taken; else every record is looked at once more.
 fn settle(desc: &[u8], layout: Layout, table: Table, input: Input, best: Best) -> Choice
-    requires { ⌜ Room (now desc) layout ⌝ }
+    requires { ⌜ SectionsInBounds (now desc) layout ⌝ }
     requires { ⌜ table .first + table .count ≤ layout .constructors .count ⌝ }
     requires { ⌜ Passed (patternsOf (now desc) layout table) input (table .count) best ⌝ }
-    ensures { λ r. ⌜ SettlesBy (patternsOf (now (desc .entry)) layout table) input (table .count) r ⌝ }
+    ensures { λ r. ⌜ ChoiceOf (patternsOf (now (desc .entry)) layout table) input (table .count) r ⌝ }
 {
     if best.found {
-        if best.doubt {
+        if best.unsure {
             if clears_all(desc, layout, table, input, best.at) {
                 return Choice::Taken(best.at);
             }
@@ -131,14 +132,14 @@ fn settle(desc: &[u8], layout: Layout, table: Table, input: Input, best: Best) -
 
 // The choice in a table, for the bytes of the code and a context.
 pub fn choose_in(desc: &[u8], layout: Layout, table: Table, code: &[u8], context: u32) -> Choice
-    requires { ⌜ Room (now desc) layout ⌝ }
+    requires { ⌜ SectionsInBounds (now desc) layout ⌝ }
     requires { ⌜ table .first + table .count ≤ layout .constructors .count ⌝ }
     ensures { λ r. ⌜ r ≡ choose (patternsOf (now (desc .entry)) layout table) (table .count) (now (code .entry)) context ⌝ }
 {
     let input = patterns::input_of(code, context);
     let scanned = scan(desc, layout, table, input);
     match scanned {
-        Scanned::Cut => Choice::Short,
-        Scanned::All(best) => settle(desc, layout, table, input, best),
+        Scanned::CutOff => Choice::Short,
+        Scanned::Complete(best) => settle(desc, layout, table, input, best),
     }
 }

@@ -8,7 +8,7 @@ ghost use mathlib.Core.Path.{_≡_};
 ghost use Prim.Native.Nat.{_*_, _≤_};
 ghost use lib.ListN.{length};
 ghost use Rattle.format.specs.Numbers.{mostRows, rowNumbers};
-ghost use Rattle.format.specs.Check.{Formed};
+ghost use Rattle.format.specs.Check.{WellFormed};
 ghost use Rattle.format.specs.Description.{description};
 ghost use Rattle.decoding.specs.Decoding.{Decodes, decodeOf, rowsAfter};
 ghost use Rattle.decoding.specs.Copying.{Copied};
@@ -34,7 +34,7 @@ fn copy_rows(scratch: &[i64; walking::SCRATCH], used: usize, rows: &mut [i64])
 }
 
 fn decode_in(desc: &[u8], layout: Layout, context: u32, code: &[u8], rows: &mut [i64]) -> Decoded
-    requires { ⌜ Formed (now desc) layout ⌝ }
+    requires { ⌜ WellFormed (now desc) layout ⌝ }
     ensures { λ r. ⌜ Decodes (description (now (desc .entry)) layout) context (now (code .entry)) (now (rows .entry)) r (now (rows .exit)) ⌝ }
 {
     let mut fixed = setting::fill(desc, layout, false);

@@ -12,9 +12,9 @@ use Rattle.format.specs.Tables.{rootOf, tableFirst}
 use Rattle.format.specs.declared.Field.{Field}
 use Rattle.format.specs.declared.Constructor.{Constructor}
 use Rattle.format.specs.declared.Operand.{Operand}
-use Rattle.choice.specs.declared.Choice.{Choice}
-use Rattle.choice.specs.declared.Choice.the-variants as choice
-use Rattle.choosing.specs.Table.{chooseIn}
+use Rattle.choosing_spec.specs.declared.Choice.{Choice}
+use Rattle.choosing_spec.specs.declared.Choice.the-variants as choice
+use Rattle.choosing_spec.specs.Table.{chooseIn}
 use Rattle.fields.specs.Value.{valueOf}
 use Rattle.fields.specs.Look.{lookOf, numberOf}
 use Rattle.fields.specs.declared.Look.{Look}

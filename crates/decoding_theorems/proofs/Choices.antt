@@ -9,9 +9,9 @@ use Rattle.format.specs.Description.{Description}
 use Rattle.format.specs.Tables.{tableFirst}
 use Rattle.format.specs.declared.Constructor.{Constructor}
 use Rattle.format.specs.declared.Operand.{Operand}
-use Rattle.format.proofs.Formation.{Obeyed}
-use Rattle.choice.specs.declared.Choice.the-variants.{Taken}
-use Rattle.choosing.specs.Records.{TakenIn, NoneIn}
+use Rattle.format.proofs.Formation.{RulesHold}
+use Rattle.choosing_spec.specs.declared.Choice.the-variants.{Taken}
+use Rattle.choosing_spec.specs.Records.{TakenIn, NoneIn}
 use Rattle.choosing.proofs.Records.{taken-in, none-in}
 use Rattle.decoding_spec.specs.Tree.{Node, Nodes, rowsOf, rowsOfAll}
 use Rattle.decoding_spec.specs.Walk.{done, refused, choiceIn, instructionOf}
@@ -28,7 +28,7 @@ use Rattle.decoding_theorems.proofs.Taken.{takes, none-taken}
 abbrev context : State → ℕ
 context st = st .context
 
-module _ (d : Description) (o : Obeyed d) (c : ℕ) (input : List ℕ) where
+module _ (d : Description) (o : RulesHold d) (c : ℕ) (input : List ℕ) where
   -- constructor k is what table t takes at a place
   inmost : (t at k : ℕ) (st : State) → st .context ≡ c → choiceIn d t (drop at input) (st .context) ≡ Taken k → TakenIn d t (drop at input) c k
   inmost t at k st h e =

@@ -20,7 +20,7 @@ use Rattle.format.specs.Tables.{rootOf}
 use Rattle.format.specs.declared.Field.{Field}
 use Rattle.format.specs.declared.Constructor.{Constructor}
 use Rattle.format.specs.declared.Operand.{Operand}
-use Rattle.format.proofs.Formation.{Obeyed}
+use Rattle.format.proofs.Formation.{RulesHold}
 use Rattle.format.proofs.Tables.{shaped, table-low}
 use Rattle.decoding_theorems.specs.Usable.{Placed, Usable}
 
@@ -75,7 +75,7 @@ table-placed d k i own e z =
     ltb-true (x .index) (k .table)
     (and-left (ltb (x .index) (k .table)) (hasTable d (x .index)) (simp (kind-one d x own z) at t))
 
-module _ (d : Description) (o : Obeyed d) where
+module _ (d : Description) (o : RulesHold d) where
   pub field-ok : (i : ℕ) → i < length (d .fields) → fieldOk (length (d .names)) (getD (d .fields) i noField) ≡ true
   field-ok i h = all-at _ _ i (o .fields) h
 

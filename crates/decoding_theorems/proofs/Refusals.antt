@@ -14,18 +14,18 @@ use Rattle.format.specs.Tables.{rootOf, tableFirst, tableEnd}
 use Rattle.format.specs.declared.Field.{Field}
 use Rattle.format.specs.declared.Constructor.{Constructor}
 use Rattle.format.specs.declared.Operand.{Operand}
-use Rattle.format.proofs.Formation.{Obeyed}
+use Rattle.format.proofs.Formation.{RulesHold}
 use Rattle.format.proofs.Tables.{of-table}
 use Rattle.patterns.specs.Matching.{matches}
 use Rattle.fields.specs.Value.{valueOf}
 use Rattle.fields.specs.Look.{lookOf}
 use Rattle.fields.specs.declared.Look.{Look}
 use Rattle.fields.specs.declared.Look.the-variants as look
-use Rattle.choice.specs.Choosing.{matching}
-use Rattle.choice.specs.declared.Choice.{Choice}
-use Rattle.choice.specs.declared.Choice.the-variants as choice
-use Rattle.choosing.specs.Table.{patternFrom}
-use Rattle.choosing_facts.proofs.Taken as choosing
+use Rattle.choosing_spec.specs.Choosing.{matching}
+use Rattle.choosing_spec.specs.declared.Choice.{Choice}
+use Rattle.choosing_spec.specs.declared.Choice.the-variants as choice
+use Rattle.choosing_spec.specs.Table.{patternFrom}
+use Rattle.choosing_theorems.proofs.Taken as choosing
 use Rattle.decoding_spec.specs.State.{Setting, starting, counted}
 use Rattle.decoding_spec.specs.Tree.{Node, Nodes, more}
 use Rattle.decoding_spec.specs.Walk.{Result, done, refused, Walker, andThen, full, widthOf, choiceIn, shownAs, startOf, closed, fieldFrom, operandFrom, operandsFrom, constructorFrom, taking, tableFrom, walkFrom, rejectEmpty, instructionFrom, instructionOf}
@@ -127,7 +127,7 @@ module _ (d : Description) (c : ℕ) (input : List ℕ) where
   choice-refused x e = rw e at explained
 
   -- none of that table's constructors matches the input's bytes from that place on
-  pub none-matches : Obeyed d → (p t : ℕ) → instructionOf d c input ≡ refused (NoMatch p t) → (k : ℕ) → k < length (d .constructors)
+  pub none-matches : RulesHold d → (p t : ℕ) → instructionOf d c input ≡ refused (NoMatch p t) → (k : ℕ) → k < length (d .constructors)
       → tableAt d k ≡ t → matches (getD (d .constructors) k noConstructor .pattern) (drop p input) c ≡ false
   unfolding patternFrom matching
   none-matches o p t e k h f =

@@ -8,7 +8,7 @@ use Rattle.format.specs.Description.{Description, noField}
 use Rattle.format.specs.Rules.{operandOf}
 use Rattle.format.specs.declared.Constructor.{Constructor}
 use Rattle.format.specs.declared.Operand.{Operand}
-use Rattle.format.proofs.Formation.{Obeyed}
+use Rattle.format.proofs.Formation.{RulesHold}
 use Rattle.fields.proofs.Values.{named-within}
 use Rattle.decoding_spec.specs.Tree.{Node, Nodes}
 use Rattle.decoding_spec.specs.Walk.{done, instructionOf}
@@ -20,7 +20,7 @@ use Rattle.decoding_theorems.proofs.Records.{field-ok, usable}
 use Rattle.decoding_theorems.proofs.Relation.{relation}
 use Rattle.decoding_theorems.proofs.Taken.{takes}
 
-module _ (d : Description) (o : Obeyed d) (input : List ℕ) where
+module _ (d : Description) (o : RulesHold d) (input : List ℕ) where
   counted : {k : Constructor} {at left i far far′ : ℕ} {ends : List ℕ} {st st′ : State} {f : Nodes}
       → OperandsWalk d input k at left i ends far st f far′ st′ → countOf f ≡ left
   unfolding countOf
@@ -46,5 +46,5 @@ module _ (d : Description) (o : Obeyed d) (input : List ℕ) where
     operands-shaped (next {o = i} x r) p =
         (operand-shaped x (p i (omega arith) (omega arith)), operands-shaped r (λ j a b. p j (omega arith) (omega arith)))
 
-pub shaped : (d : Description) → Obeyed d → (c : ℕ) (s : List ℕ) (n : Node) (l : ℕ) (st : State) → instructionOf d c s ≡ done n l st → Shaped d n
+pub shaped : (d : Description) → RulesHold d → (c : ℕ) (s : List ℕ) (n : Node) (l : ℕ) (st : State) → instructionOf d c s ≡ done n l st → Shaped d n
 shaped d o c s n l st e = table-shaped d o s (relation d c s n l st e .root)

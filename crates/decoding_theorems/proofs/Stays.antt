@@ -13,14 +13,14 @@ use Rattle.format.specs.Tables.{rootOf, tableFirst}
 use Rattle.format.specs.declared.Field.{Field}
 use Rattle.format.specs.declared.Constructor.{Constructor}
 use Rattle.format.specs.declared.Operand.{Operand}
-use Rattle.format.proofs.Formation.{Obeyed}
+use Rattle.format.proofs.Formation.{RulesHold}
 use Rattle.fields.specs.Value.{Readable}
 use Rattle.fields.specs.Look.{lookOf}
 use Rattle.fields.proofs.Values.{value-stays, readable}
-use Rattle.choice.specs.declared.Choice.{Choice}
-use Rattle.choice.specs.declared.Choice.the-variants as choice
-use Rattle.choosing.specs.Table.{chooseIn}
-use Rattle.choosing_facts.proofs.Stays as choosing
+use Rattle.choosing_spec.specs.declared.Choice.{Choice}
+use Rattle.choosing_spec.specs.declared.Choice.the-variants as choice
+use Rattle.choosing_spec.specs.Table.{chooseIn}
+use Rattle.choosing_theorems.proofs.Stays as choosing
 use Rattle.decoding_spec.specs.State.{Setting, starting, counted}
 use Rattle.decoding_spec.specs.Tree.{Node, Nodes, more}
 use Rattle.decoding_spec.specs.Walk.{Result, done, refused, Walker, andThen, full, widthOf, numberedFrom, choiceIn, shownAs, startOf, closed, closing, fieldFrom, operandFrom, operandsFrom, constructorFrom, taking, tableFrom, walkFrom, rejectEmpty, instructionFrom, instructionOf}
@@ -57,7 +57,7 @@ test-stays true x r r′ e h = refl
 test-stays false x r r′ e h = e h
 
 -- for an input of `total` bytes, and one that is at least as long
-module _ (d : Description) (o : Obeyed d) (total total′ : ℕ) (grows : total ≤ total′) where
+module _ (d : Description) (o : RulesHold d) (total total′ : ℕ) (grows : total ≤ total′) where
   abbrev g : Setting
   g = record { description = d; total = total }
 
@@ -176,7 +176,7 @@ module _ (d : Description) (o : Obeyed d) (total total′ : ℕ) (grows : total 
   walk-stays zero t s m at st l h = refl
   walk-stays (suc depth) t s m at st l h = table-stays (walkFrom g depth) (walkFrom g′ depth) (walk-stays depth) t s m at st l h
 
-pub stays : (d : Description) → Obeyed d → (c : ℕ) (s m : List ℕ) → ((p : ℕ) → instructionOf d c s ≡ refused (Short p) → ⊥)
+pub stays : (d : Description) → RulesHold d → (c : ℕ) (s m : List ℕ) → ((p : ℕ) → instructionOf d c s ≡ refused (Short p) → ⊥)
     → instructionOf d c (s ++ m) ≡ instructionOf d c s
 unfolding instructionOf instructionFrom
 stays d o c s m h =

@@ -7,12 +7,12 @@ use lib.ListN.{length}
 use Rattle.format.specs.Description.{Description}
 use Rattle.format.specs.Rules.{tableAt}
 use Rattle.format.specs.Tables.{tableFirst, tableEnd}
-use Rattle.format.proofs.Formation.{Obeyed}
+use Rattle.format.proofs.Formation.{RulesHold}
 use Rattle.format.proofs.Tables.{in-table, end-within}
-use Rattle.choice.specs.declared.Choice.{Choice}
-use Rattle.choice.specs.declared.Choice.the-variants.{Short, NoMatch, Taken, Ambiguous}
-use Rattle.choosing.specs.Table.{patternFrom, chooseIn}
-use Rattle.choosing_facts.proofs.Taken.{taken-facts}
+use Rattle.choosing_spec.specs.declared.Choice.{Choice}
+use Rattle.choosing_spec.specs.declared.Choice.the-variants.{Short, NoMatch, Taken, Ambiguous}
+use Rattle.choosing_spec.specs.Table.{patternFrom, chooseIn}
+use Rattle.choosing_theorems.proofs.Taken.{taken-facts}
 use Rattle.decoding_spec.specs.Walk.{numberedFrom, choiceIn}
 
 -- record n of section 3 is record `within` of its table
@@ -41,7 +41,7 @@ module _ (d : Description) (c t : ℕ) (s : List ℕ) where
     pub from : tableFirst d t ≤ k
     pub taken : chooseIn d t s c ≡ Taken (k - tableFirst d t)
 
-  pub takes : Obeyed d → (k : ℕ) → choiceIn d t s c ≡ Taken k → Takes k
+  pub takes : RulesHold d → (k : ℕ) → choiceIn d t s c ≡ Taken k → Takes k
   unfolding choiceIn
   takes o k e =
       let r = numbered-taken (tableFirst d t) k (chooseIn d t s c) e in

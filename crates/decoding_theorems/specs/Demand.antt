@@ -5,7 +5,7 @@ use mathlib.Core.List.{List}
 use mathlib.Core.Path.{_≡_}
 use lib.ListN.{drop}
 use Rattle.format.specs.Description.{Description}
-use Rattle.choosing.specs.Records.{TakenIn}
+use Rattle.choosing_spec.specs.Records.{TakenIn}
 use Rattle.decoding_spec.specs.Tree.{Row}
 
 -- a constructor's row, in the context c, for the input s: in some table, it matches the input's bytes from its start on, and lies inside

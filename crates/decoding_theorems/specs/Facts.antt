@@ -8,7 +8,7 @@ use lib.IntN.{natAbs}
 use lib.ListN.{length, getD, drop}
 use Rattle.format.specs.Numbers.{longest, mostRows}
 use Rattle.format.specs.Description.{Description, noField, noConstructor}
-use Rattle.choice.specs.declared.Choice.the-variants as choice
+use Rattle.choosing_spec.specs.declared.Choice.the-variants as choice
 use Rattle.decoding_spec.specs.Tree.{Row, Node, Nodes, built, numbered, named, none, more, rowsOf}
 use Rattle.decoding_spec.specs.Walk.{widthOf, choiceIn}
 use Rattle.decoding_spec.specs.declared.Refusal.{Refusal}

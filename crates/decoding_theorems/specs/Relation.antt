@@ -11,7 +11,7 @@ use Rattle.format.specs.Rules.{bitsOf, operandOf}
 use Rattle.format.specs.declared.Field.{Field}
 use Rattle.format.specs.declared.Constructor.{Constructor}
 use Rattle.format.specs.declared.Operand.{Operand}
-use Rattle.choice.specs.declared.Choice.the-variants.{Taken}
+use Rattle.choosing_spec.specs.declared.Choice.the-variants.{Taken}
 use Rattle.fields.specs.Value.{valueOf}
 use Rattle.fields.specs.Look.{lookOf, numberOf}
 use Rattle.fields.specs.declared.Look.the-variants as look

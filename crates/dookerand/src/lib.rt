@@ -1,13 +1,13 @@
 // The C face. Each function returns the answer's number in document 01's table and sets all four values.
 use acceptance::Acceptance;
 use acceptance::Rejection;
-use asking::Asked;
-use clashing::Judged;
+use clash_check::ClashAnswer;
 use decoding::Decoded;
 use decoding_spec::Refusal;
 use listing_text::Listed;
-use sweeping::End;
-use sweeping::Swept;
+use sweep::End;
+use sweep::Swept;
+use table_query::Asked;
 use text_decoding::Texted;
 use tree_check::Answer;
 ghost use mathlib.Core.Path.{_≡_};
@@ -15,17 +15,17 @@ ghost use lib.ListN.{length};
 ghost use Rattle.acceptance.specs.Acceptance as acceptance;
 ghost use Rattle.acceptance.specs.Acceptance.{acceptanceOf, rejectionNumber, rejectionValues};
 ghost use Rattle.decoding_spec.specs.Refusals.{refusalNumber, refusalValues};
-ghost use Rattle.asking.specs.Asking as asking;
-ghost use Rattle.asking.specs.Asking.{askOf};
-ghost use Rattle.clashing.specs.Entry as clashing;
-ghost use Rattle.clashing.specs.Entry.{clashAnswer};
+ghost use Rattle.table_query.specs.Asking as asking;
+ghost use Rattle.table_query.specs.Asking.{askOf};
+ghost use Rattle.clash_check.specs.Entry as clashing;
+ghost use Rattle.clash_check.specs.Entry.{clashAnswer};
 ghost use Rattle.tree_check.specs.Entry.{Reported};
 ghost use Rattle.decoding.specs.Decoding as decoding;
 ghost use Rattle.decoding.specs.Decoding.{decodeOf, rowsAfter};
 ghost use Rattle.text_decoding.specs.TextDecoding as texting;
 ghost use Rattle.text_decoding.specs.TextDecoding.{decodeTextOf, textAfter};
-ghost use Rattle.sweeping.specs.Sweep as sweeping;
-ghost use Rattle.sweeping.specs.Sweep.{endNumber, sweepOf, bufferAfter};
+ghost use Rattle.sweep.specs.Sweep as sweeping;
+ghost use Rattle.sweep.specs.Sweep.{endNumber, sweepOf, bufferAfter};
 ghost use Rattle.listing_text.specs.Listing as listing;
 ghost use Rattle.listing_text.specs.Listing.{flag, listOf, listAfter};
 
@@ -78,7 +78,7 @@ pub extern "C" fn dookerand_ask(
     ensures { λ r. ⌜ r ≡ asking.numberOf (askOf (now (desc .entry)) table context (now (code .entry))) ⌝ }
     ensures { λ _. ⌜ now (values .exit) ≡ asking.valuesOf (askOf (now (desc .entry)) table context (now (code .entry))) ⌝ }
 {
-    let asked = asking::ask(desc, table, context, code);
+    let asked = table_query::ask(desc, table, context, code);
     match asked {
         Asked::Done {
             constructor,
@@ -112,21 +112,21 @@ pub extern "C" fn dookerand_clash(desc: &[u8], table: u32, values: &mut [u64; 4]
     ensures { λ r. ⌜ r ≡ clashing.numberOf (clashAnswer (now (desc .entry)) table) ⌝ }
     ensures { λ _. ⌜ now (values .exit) ≡ clashing.valuesOf (clashAnswer (now (desc .entry)) table) ⌝ }
 {
-    let judged = clashing::clash(desc, table);
+    let judged = clash_check::clash(desc, table);
     match judged {
-        Judged::Clear => {
+        ClashAnswer::Clear => {
             *values = [0, 0, 0, 0];
             0
         }
-        Judged::Pair(i, j) => {
+        ClashAnswer::Pair(i, j) => {
             *values = [1, i as u64, j as u64, 0];
             0
         }
-        Judged::Malformed { section, record } => {
+        ClashAnswer::Malformed { section, record } => {
             *values = [section as u64, record as u64, 0, 0];
             1
         }
-        Judged::NoTable(t) => {
+        ClashAnswer::NoTable(t) => {
             *values = [t as u64, 0, 0, 0];
             12
         }
@@ -243,7 +243,7 @@ pub extern "C" fn dookerand_sweep(
     ensures { λ _. ⌜ now (values .exit) ≡ sweeping.valuesOf (sweepOf (now (desc .entry)) context (now (code .entry)) (length (now (rows .entry)))) ⌝ }
     ensures { λ _. ⌜ now (rows .exit) ≡ bufferAfter (now (desc .entry)) context (now (code .entry)) (now (rows .entry)) ⌝ }
 {
-    let swept = sweeping::sweep(desc, context, code, rows);
+    let swept = sweep::sweep(desc, context, code, rows);
     match swept {
         Swept::Ended {
             why,

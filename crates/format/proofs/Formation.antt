@@ -14,17 +14,17 @@ use Rattle.format.specs.Numbers.{sectionItself, operandsEach, piecesEach
 use Rattle.format.specs.Layout.{layoutOf}
 use Rattle.format.specs.Description.{Description, description, noField, noName, noConstructor, noOperand, noPiece}
 use Rattle.format.specs.Rules.{fieldOk, nameOk, constructorOk, operandOk, pieceOk, letterOk, shapeOk, tableOk, tableAt, minimumOk, valueOk, rangeOk, operandFits, pieceFits}
-use Rattle.format.specs.Check.{allGood, named, faultOf, partFault, judged, checkOf, Formed, badField, badName, badConstructor, badOperand, badPiece, badLetter}
+use Rattle.format.specs.Check.{allGood, named, faultOf, partFault, judged, checkOf, WellFormed, badField, badName, badConstructor, badOperand, badPiece, badLetter}
 use Rattle.format.specs.declared.Layout.{Layout}
 use Rattle.format.specs.declared.Constructor.{Constructor}
-use Rattle.format.specs.declared.Laid.{Laid}
-use Rattle.format.specs.declared.Laid.the-variants as laid
+use Rattle.format.specs.declared.LayoutResult.{LayoutResult}
+use Rattle.format.specs.declared.LayoutResult.the-variants as laid
 use Rattle.format.specs.declared.Checked.{Checked}
 use Rattle.format.specs.declared.Checked.the-variants.{Good, Fault}
 use Rattle.format.proofs.Places.{laid-room}
 
 -- every record of every section obeys its rules
-pub record Obeyed (d : Description) : Type 0 where
+pub record RulesHold (d : Description) : Type 0 where
   pub fields : allGood (fieldOk (length (d .names))) noField (d .fields) ≡ true
   pub names : allGood (nameOk (length (d .text))) noName (d .names) ≡ true
   pub constructors : allBelow (length (d .constructors)) (constructorOk d) ≡ true
@@ -41,7 +41,7 @@ passed k i n rest l e = go (ltb i n) refl e
     go false p q = (ltb-false i n p, q)
 
 -- no fault: the places are handed on, and every record obeys its rules
-unfaulted : (d : Description) (l m : Layout) → faultOf d l ≡ Good m → (l ≡ m) × Obeyed d
+unfaulted : (d : Description) (l m : Layout) → faultOf d l ≡ Good m → (l ≡ m) × RulesHold d
 unfolding faultOf partFault badField badName badConstructor badOperand badPiece badLetter
 unfaulted d l m e =
     let fields = passed 1 (badField d) (length (d .fields)) _ m e in
@@ -62,7 +62,7 @@ unfaulted d l m e =
     )
 
 -- the layout that was judged
-laid-of : (b : List ℕ) (l : Layout) (x : Laid) → layoutOf b ≡ x → judged b x ≡ Good l → (layoutOf b ≡ laid.At l) × Obeyed (description b l)
+laid-of : (b : List ℕ) (l : Layout) (x : LayoutResult) → layoutOf b ≡ x → judged b x ≡ Good l → (layoutOf b ≡ laid.At l) × RulesHold (description b l)
 laid-of b l (laid.At m) p e =
     let u = unfaulted (description b m) m l e in
     (rw (u .0) at p, rw (u .0) at (u .1))
@@ -70,10 +70,10 @@ laid-of b l (laid.Fault k) p e = let z : _≡_ {A = ℕ} 0 1 = cc in absurd (ome
 
 module _ (b : List ℕ) (l : Layout) where
   -- the door to everything above: what `check` says when it finds no fault
-  pub formed : checkOf b ≡ Good l → Formed b l
+  pub formed : checkOf b ≡ Good l → WellFormed b l
   unfolding checkOf
   formed e = record { room = laid-room b l (laid-of b l (layoutOf b) refl e .0); good = e }
 
-  pub obeyed : Formed b l → Obeyed (description b l)
+  pub obeyed : WellFormed b l → RulesHold (description b l)
   unfolding checkOf
   obeyed f = laid-of b l (layoutOf b) refl (f .good) .1

@@ -9,16 +9,16 @@ use borrow.Author.Tests.{leb-true}
 use lib.Dec.{leb, eqb}
 use lib.ListN.{length}
 use Rattle.lists.proofs.Bools.{and4}
-use Rattle.format.specs.Bytes.{wordAt}
+use Rattle.format.specs.Bytes.{u16At}
 use Rattle.format.specs.Numbers.{countBytes}
-use Rattle.format.specs.Layout.{Room, inside, next, endOr, sectionAt, layoutOf, namesFrom, constructorsFrom, operandsFrom, piecesFrom, textFrom}
+use Rattle.format.specs.Layout.{SectionsInBounds, inside, next, endOr, sectionAt, layoutOf, namesFrom, constructorsFrom, operandsFrom, piecesFrom, textFrom}
 use Rattle.format.specs.declared.Section.{Section}
 use Rattle.format.specs.declared.Cursor.{Cursor}
 use Rattle.format.specs.declared.Layout.{Layout}
 use Rattle.format.specs.declared.Counted.{Counted}
 use Rattle.format.specs.declared.Counted.the-variants.{Found, Missing}
-use Rattle.format.specs.declared.Laid.{Laid}
-use Rattle.format.specs.declared.Laid.the-variants.{At, Fault}
+use Rattle.format.specs.declared.LayoutResult.{LayoutResult}
+use Rattle.format.specs.declared.LayoutResult.the-variants.{At, Fault}
 
 -- what a count that was found says of its section
 pub record Placed (b : List ℕ) (least most size : ℕ) (s : Section) : Type 0 where
@@ -27,19 +27,19 @@ pub record Placed (b : List ℕ) (least most size : ℕ) (s : Section) : Type 0 
   pub few : s .count ≤ most
 
 -- the section that a step went past, and what the step after it gave
-record Passed (b : List ℕ) (least most size : ℕ) (more : Section → ℕ → Laid) (l : Layout) : Type 0 where
+record Passed (b : List ℕ) (least most size : ℕ) (more : Section → ℕ → LayoutResult) (l : Layout) : Type 0 where
   section : Section
   at : ℕ
   placed : Placed b least most size section
   rest : more section at ≡ At l
 
-passed : (b : List ℕ) (k at least most size : ℕ) (more : Section → ℕ → Laid) (l : Layout)
+passed : (b : List ℕ) (k at least most size : ℕ) (more : Section → ℕ → LayoutResult) (l : Layout)
     → next k (sectionAt b at least most size) more ≡ At l → Passed b least most size more l
 unfolding sectionAt
 passed b k at least most size more l e = go _ refl e
   where
     n : ℕ
-    n = wordAt b at
+    n = u16At b at
 
     go : (t : Bool)
         → (leb (at + countBytes) (length b) && leb least n && leb n most && leb (at + countBytes + n * size) (length b)) ≡ t
@@ -61,24 +61,24 @@ passed b k at least most size more l e = go _ refl e
     go false p q = let z : _≡_ {A = ℕ} 0 1 = cc in absurd (omega arith)
 
 -- reading on from a layout that has room gives, if there is no fault, one that has room
-Keeps : List ℕ → (Layout → ℕ → Laid) → Type 0
-Keeps b rest = (l m : Layout) (at : ℕ) → Room b l → rest l at ≡ At m → Room b m
+Keeps : List ℕ → (Layout → ℕ → LayoutResult) → Type 0
+Keeps b rest = (l m : Layout) (at : ℕ) → SectionsInBounds b l → rest l at ≡ At m → SectionsInBounds b m
 
 fault-keeps : (b : List ℕ) (k : ℕ) → Keeps b (λ l at. Fault k)
 unfolding Keeps
 fault-keeps b k l m at r e = let z : _≡_ {A = ℕ} 0 1 = cc in absurd (omega arith)
 
 -- .. also where the description may end
-end-keeps : (b : List ℕ) (rest : Layout → ℕ → Laid) → Keeps b rest → Keeps b (endOr b rest)
+end-keeps : (b : List ℕ) (rest : Layout → ℕ → LayoutResult) → Keeps b rest → Keeps b (endOr b rest)
 unfolding Keeps
 end-keeps b rest k l m at r e = go (eqb at (length b)) e
   where
-    go : (t : Bool) → cond t (At l) (rest l at) ≡ At m → Room b m
+    go : (t : Bool) → cond t (At l) (rest l at) ≡ At m → SectionsInBounds b m
     go true p = let s : l ≡ m = cc in rw s at r
     go false p = k l m at r p
 
 -- the places that the counts give
-pub laid-room : (b : List ℕ) (l : Layout) → layoutOf b ≡ At l → Room b l
+pub laid-room : (b : List ℕ) (l : Layout) → layoutOf b ≡ At l → SectionsInBounds b l
 unfolding layoutOf namesFrom constructorsFrom operandsFrom piecesFrom textFrom Keeps
 laid-room b l e =
     let fields = passed b 1 _ _ _ _ _ l e in

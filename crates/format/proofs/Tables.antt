@@ -17,7 +17,7 @@ use Rattle.format.specs.Description.{Description, description, noConstru
 use Rattle.format.specs.Rules.{constructorOk, shapeOk, tableOk, tableAt, minimumOk, valueOk, rangeOk, operandFits, pieceFits, hasTable}
 use Rattle.format.specs.Tables.{tableFirst, tableEnd}
 use Rattle.format.specs.declared.Constructor.{Constructor}
-use Rattle.format.proofs.Formation.{Obeyed}
+use Rattle.format.proofs.Formation.{RulesHold}
 
 -- the first rule of a constructor that obeys all of them
 pub shaped : (d : Description) (i : ℕ) → constructorOk d i ≡ true → shapeOk d i (getD (d .constructors) i noConstructor) ≡ true
@@ -37,7 +37,7 @@ tabled d i c e =
     (and-left (tableOk d i && minimumOk c && valueOk (c .pattern)) operands
     (and-left (tableOk d i && minimumOk c && valueOk (c .pattern) && operands) (rangeOk piecesEach (length (d .pieces)) (c .pieces)) e)))
 
-module _ (d : Description) (o : Obeyed d) where
+module _ (d : Description) (o : RulesHold d) where
   table-ok : (i : ℕ) → i < length (d .constructors) → tableOk d i ≡ true
   table-ok i h = tabled d i _ (shaped d i (all-at (constructorOk d) _ i (o .constructors) h))
 

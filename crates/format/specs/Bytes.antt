@@ -6,11 +6,11 @@ use lib.ListN.{getD}
 abbrev pub byteAt : List ℕ → ℕ → ℕ
 byteAt b at = getD b at 0
 
-abbrev pub wordAt : List ℕ → ℕ → ℕ
-wordAt b at = byteAt b at + 256 * byteAt b (at + 1)
+abbrev pub u16At : List ℕ → ℕ → ℕ
+u16At b at = byteAt b at + 256 * byteAt b (at + 1)
 
-abbrev pub longAt : List ℕ → ℕ → ℕ
-longAt b at = wordAt b at + 65536 * wordAt b (at + 2)
+abbrev pub u32At : List ℕ → ℕ → ℕ
+u32At b at = u16At b at + 65536 * u16At b (at + 2)
 
-abbrev pub quadAt : List ℕ → ℕ → ℕ
-quadAt b at = longAt b at + 4294967296 * longAt b (at + 4)
+abbrev pub u64At : List ℕ → ℕ → ℕ
+u64At b at = u32At b at + 4294967296 * u32At b (at + 4)

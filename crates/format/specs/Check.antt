@@ -7,12 +7,12 @@ use lib.Dec.{ltb}
 use lib.ListN.{length, getD}
 use Rattle.lists.specs.Below.{allBelow, firstBelow}
 use Rattle.format.specs.Numbers.{sectionItself}
-use Rattle.format.specs.Layout.{layoutOf, Room}
+use Rattle.format.specs.Layout.{layoutOf, SectionsInBounds}
 use Rattle.format.specs.Description.{Description, description, noField, noName, noOperand, noPiece}
 use Rattle.format.specs.Rules.{fieldOk, nameOk, constructorOk, operandOk, pieceOk, letterOk}
 use Rattle.format.specs.declared.Layout.{Layout}
-use Rattle.format.specs.declared.Laid.{Laid}
-use Rattle.format.specs.declared.Laid.the-variants as laid
+use Rattle.format.specs.declared.LayoutResult.{LayoutResult}
+use Rattle.format.specs.declared.LayoutResult.the-variants as laid
 use Rattle.format.specs.declared.Checked.{Checked}
 use Rattle.format.specs.declared.Checked.the-variants.{Good, Fault}
 
@@ -59,7 +59,7 @@ faultOf d l =
     (named 2 (badName d) (length (d .names))
     (named 3 (badConstructor d) (length (d .constructors)) (partFault d l)))
 
-abbrev pub judged : List ℕ → Laid → Checked
+abbrev pub judged : List ℕ → LayoutResult → Checked
 judged b (laid.At l) = faultOf (description b l) l
 judged b (laid.Fault k) = Fault k sectionItself
 
@@ -90,6 +90,6 @@ unfoldable pub parse : List ℕ → Parsed
 parse b = meaning b (checkOf b)
 
 -- these bytes read as the description `description b l`, with these places
-pub record Formed (b : List ℕ) (l : Layout) : Type 0 where
-  pub room : Room b l
+pub record WellFormed (b : List ℕ) (l : Layout) : Type 0 where
+  pub room : SectionsInBounds b l
   pub good : checkOf b ≡ Good l

@@ -4,35 +4,35 @@ use mathlib.Core.Bool.{Bool, cond, _&&_}
 use mathlib.Core.List.{List}
 use lib.Dec.{leb, eqb}
 use lib.ListN.{length}
-use Rattle.format.specs.Bytes.{wordAt}
+use Rattle.format.specs.Bytes.{u16At}
 use Rattle.format.specs.Numbers.{countBytes, mostFields, mostNames, leastConstructors, mostConstructors, mostOperands, mostPieces, mostLetters, fieldBytes, nameBytes, constructorBytes, operandBytes, pieceBytes, letterBytes}
 use Rattle.format.specs.declared.Section.{Section}
 use Rattle.format.specs.declared.Layout.{Layout}
 use Rattle.format.specs.declared.Counted.{Counted}
 use Rattle.format.specs.declared.Counted.the-variants.{Found, Missing}
-use Rattle.format.specs.declared.Laid.{Laid}
-use Rattle.format.specs.declared.Laid.the-variants.{At, Fault}
+use Rattle.format.specs.declared.LayoutResult.{LayoutResult}
+use Rattle.format.specs.declared.LayoutResult.the-variants.{At, Fault}
 
 -- "a count missing, out of limit or not followed by its records is that section's fault"
 unfoldable pub sectionAt : List ℕ → ℕ → ℕ → ℕ → ℕ → Counted
 sectionAt b at least most size =
     cond
-    (leb (at + countBytes) (length b) && leb least (wordAt b at) && leb (wordAt b at) most
-    && leb (at + countBytes + wordAt b at * size) (length b))
-    (Found (record { start = at + countBytes; count = wordAt b at }) (record { at = at + countBytes + wordAt b at * size }))
+    (leb (at + countBytes) (length b) && leb least (u16At b at) && leb (u16At b at) most
+    && leb (at + countBytes + u16At b at * size) (length b))
+    (Found (record { start = at + countBytes; count = u16At b at }) (record { at = at + countBytes + u16At b at * size }))
     Missing
 
 -- section k, and what comes after it
-abbrev pub next : ℕ → Counted → (Section → ℕ → Laid) → Laid
+abbrev pub next : ℕ → Counted → (Section → ℕ → LayoutResult) → LayoutResult
 next k (Found s c) more = more s (c .at)
 next k Missing more = Fault k
 
 -- "First the counts are read in order": section k is read at a place and put into the layout, which was filled up to here; then the rest is read.
-abbrev pub section : List ℕ → ℕ → ℕ → ℕ → ℕ → (Layout → Section → Layout) → (Layout → ℕ → Laid) → Layout → ℕ → Laid
+abbrev pub section : List ℕ → ℕ → ℕ → ℕ → ℕ → (Layout → Section → Layout) → (Layout → ℕ → LayoutResult) → Layout → ℕ → LayoutResult
 section b k least most size put rest l at = next k (sectionAt b at least most size) (λ s end. rest (put l s) end)
 
 -- the description may end here, or goes on
-abbrev pub endOr : List ℕ → (Layout → ℕ → Laid) → Layout → ℕ → Laid
+abbrev pub endOr : List ℕ → (Layout → ℕ → LayoutResult) → Layout → ℕ → LayoutResult
 endOr b rest l at = cond (eqb at (length b)) (At l) (rest l at)
 
 -- a layout with one section put in
@@ -68,22 +68,22 @@ abbrev pub unlaid : Layout
 unlaid = record { fields = empty; names = empty; constructors = empty; operands = empty; pieces = empty; text = empty }
 
 -- "Six sections stand in a fixed order, each after its count (two bytes), and nothing follows", "bytes left over are section 6's"
-unfoldable pub textFrom : List ℕ → Layout → ℕ → Laid
+unfoldable pub textFrom : List ℕ → Layout → ℕ → LayoutResult
 textFrom b = section b 6 0 mostLetters letterBytes putText (endOr b (λ l at. Fault 6))
 
-unfoldable pub piecesFrom : List ℕ → Layout → ℕ → Laid
+unfoldable pub piecesFrom : List ℕ → Layout → ℕ → LayoutResult
 piecesFrom b = section b 5 0 mostPieces pieceBytes putPieces (textFrom b)
 
-unfoldable pub operandsFrom : List ℕ → Layout → ℕ → Laid
+unfoldable pub operandsFrom : List ℕ → Layout → ℕ → LayoutResult
 operandsFrom b = section b 4 0 mostOperands operandBytes putOperands (piecesFrom b)
 
-unfoldable pub constructorsFrom : List ℕ → Layout → ℕ → Laid
+unfoldable pub constructorsFrom : List ℕ → Layout → ℕ → LayoutResult
 constructorsFrom b = section b 3 leastConstructors mostConstructors constructorBytes putConstructors (operandsFrom b)
 
-unfoldable pub namesFrom : List ℕ → Layout → ℕ → Laid
+unfoldable pub namesFrom : List ℕ → Layout → ℕ → LayoutResult
 namesFrom b = section b 2 0 mostNames nameBytes putNames (constructorsFrom b)
 
-unfoldable pub layoutOf : List ℕ → Laid
+unfoldable pub layoutOf : List ℕ → LayoutResult
 layoutOf b = section b 1 0 mostFields fieldBytes putFields (namesFrom b) unlaid 0
 
 -- a section of records of this size lies inside the bytes
@@ -91,7 +91,7 @@ abbrev pub inside : List ℕ → ℕ → Section → Type 0
 inside b size s = s .start + size * s .count ≤ length b
 
 -- each section lies inside the bytes, there is a constructor and not too many: what layoutOf shows of the places that it gives
-pub record Room (b : List ℕ) (l : Layout) : Type 0 where
+pub record SectionsInBounds (b : List ℕ) (l : Layout) : Type 0 where
   pub fields : inside b fieldBytes (l .fields)
   pub names : inside b nameBytes (l .names)
   pub constructors : inside b constructorBytes (l .constructors)

@@ -1,7 +1,7 @@
 -- One definition for each record: what stands at a place, and with it the place behind, as the cursor hands it back.
 use Prim.Native.Nat.{ℕ, _+_}
 use mathlib.Core.List.{List}
-use Rattle.format.specs.Bytes.{byteAt, wordAt, longAt, quadAt}
+use Rattle.format.specs.Bytes.{byteAt, u16At, u32At, u64At}
 use Rattle.format.specs.Numbers.{fieldBytes, nameBytes, constructorBytes, operandBytes, pieceBytes, letterBytes}
 use Rattle.format.specs.declared.Field.{Field}
 use Rattle.format.specs.declared.Name.{Name}
@@ -26,21 +26,21 @@ fieldAt b at =
       low = byteAt b (at + 3);
       high = byteAt b (at + 4);
       look = byteAt b (at + 5);
-      first = wordAt b (at + 6);
+      first = u16At b (at + 6);
     }
 
 -- "text offset (2), length (1)"
 abbrev pub nameAt : List ℕ → ℕ → Name
-nameAt b at = record { offset = wordAt b at; length = byteAt b (at + 2) }
+nameAt b at = record { offset = u16At b at; length = byteAt b (at + 2) }
 
 -- "byte mask (8), byte value (8), context mask (4), context value (4)", of the constructor at this place
 abbrev pub patternAt : List ℕ → ℕ → Pattern
 patternAt b at =
     record {
-      mask = quadAt b (at + 2);
-      value = quadAt b (at + 10);
-      contextmask = longAt b (at + 18);
-      contextvalue = longAt b (at + 22);
+      mask = u64At b (at + 2);
+      value = u64At b (at + 10);
+      contextmask = u32At b (at + 18);
+      contextvalue = u32At b (at + 22);
     }
 
 -- "table, minimum length, byte mask (8), byte value (8), context mask (4), context value (4), operand count, first operand (2), piece count, first piece (2)"
@@ -50,8 +50,8 @@ constructorAt b at =
       table = byteAt b at;
       minimum = byteAt b (at + 1);
       pattern = patternAt b at;
-      operands = record { first = wordAt b (at + 27); count = byteAt b (at + 26) };
-      pieces = record { first = wordAt b (at + 30); count = byteAt b (at + 29) };
+      operands = record { first = u16At b (at + 27); count = byteAt b (at + 26) };
+      pieces = record { first = u16At b (at + 30); count = byteAt b (at + 29) };
     }
 
 -- "kind, index, anchor, offset"
@@ -61,7 +61,7 @@ operandAt b at =
 
 -- "kind, n, text offset (2)"
 abbrev pub pieceAt : List ℕ → ℕ → Piece
-pieceAt b at = record { kind = byteAt b at; n = byteAt b (at + 1); offset = wordAt b (at + 2) }
+pieceAt b at = record { kind = byteAt b at; n = byteAt b (at + 1); offset = u16At b (at + 2) }
 
 abbrev pub fieldRead : List ℕ → ℕ → FieldRead
 fieldRead b at = record { field = fieldAt b at; next = record { at = at + fieldBytes } }

@@ -2,7 +2,7 @@
 ghost use mathlib.Core.Path.{_≡_};
 ghost use Prim.Native.Nat.{_+_, _<_, _≤_};
 ghost use lib.ListN.{length};
-ghost use Rattle.format.specs.Bytes.{wordAt, longAt, quadAt};
+ghost use Rattle.format.specs.Bytes.{u16At, u32At, u64At};
 ghost use Rattle.format.specs.Numbers.{fieldBytes, nameBytes, constructorBytes, operandBytes, pieceBytes, letterBytes};
 ghost use Rattle.format.specs.Record.{fieldRead, nameRead, patternAt, constructorRead, operandRead, pieceRead, letterRead};
 ghost use Rattle.format.specs.Layout.{sectionAt};
@@ -146,7 +146,7 @@ pub struct Layout {
 }
 
 // The six counts, read: the sections' places, or the section at fault.
-pub enum Laid {
+pub enum LayoutResult {
     At(Layout),
     Fault(usize),
 }
@@ -207,21 +207,21 @@ fn wide(x: u8) -> u16
 
 pub fn word(s: &[u8], at: usize) -> u16
     requires { ⌜ at + 2 ≤ length (now s) ⌝ }
-    ensures { λ r. ⌜ r ≡ wordAt (now (s .entry)) at ⌝ }
+    ensures { λ r. ⌜ r ≡ u16At (now (s .entry)) at ⌝ }
 {
     wide(s[at]) + 256 * wide(s[at + 1])
 }
 
 pub fn long(s: &[u8], at: usize) -> u32
     requires { ⌜ at + 4 ≤ length (now s) ⌝ }
-    ensures { λ r. ⌜ r ≡ longAt (now (s .entry)) at ⌝ }
+    ensures { λ r. ⌜ r ≡ u32At (now (s .entry)) at ⌝ }
 {
     (word(s, at) as u32) + 65536 * (word(s, at + 2) as u32)
 }
 
 pub fn quad(s: &[u8], at: usize) -> u64
     requires { ⌜ at + 8 ≤ length (now s) ⌝ }
-    ensures { λ r. ⌜ r ≡ quadAt (now (s .entry)) at ⌝ }
+    ensures { λ r. ⌜ r ≡ u64At (now (s .entry)) at ⌝ }
 {
     (long(s, at) as u64) + 4294967296 * (long(s, at + 4) as u64)
 }

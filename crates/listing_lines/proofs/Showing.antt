@@ -19,7 +19,7 @@ use Rattle.walking.specs.declared.Instruction.{Instruction}
 use Rattle.walking.specs.declared.Walked.the-variants as walked
 use Rattle.walking.proofs.Instructions.{was-refused, was-done}
 use Rattle.text.specs.Text.{textOf}
-use Rattle.text.specs.Places.{textAt, Sound}
+use Rattle.text.specs.Places.{textAt, SoundRows}
 use Rattle.text.specs.Prints.{described, wholeText}
 use Rattle.text.proofs.InstructionText.{rows-used, rows-sound, rows-text}
 use Rattle.listing_lines.specs.Line.{refusedText, refusedNext, fitting, shownBy, nextBy, shownAt, nextAt}
@@ -48,7 +48,7 @@ module _ (b a s : List ℕ) (c at : ℕ) (place : PlaceOf b a s at) (a′ : List
         record { text = rw z p; next = rw z q; told = told }
 
     module _ (l : ℕ) (st : State) (e : i .walked ≡ walked.Done st l) where
-      pub rows-there : Sound (described b a′) (i .rows) (st .used) × (0 < st .used)
+      pub rows-there : SoundRows (described b a′) (i .rows) (st .used) × (0 < st .used)
       rows-there =
           let w = was-done (described b a) c (drop at s) i here l st e in
           let o = obeyed-in b a (place .fixed) in (

@@ -12,7 +12,7 @@ ghost use lib.ListN.{length, getD};
 ghost use Rattle.format.specs.Numbers.{longestText};
 ghost use Rattle.printing.specs.Numerals.{digitOf, digitsOf};
 ghost use Rattle.setting.specs.Fixed.{Fixed};
-ghost use Rattle.text.specs.Places.{Sound};
+ghost use Rattle.text.specs.Places.{SoundRows};
 ghost use Rattle.text.specs.Prints.{described};
 ghost use Rattle.walking.specs.Walks.{toldLength};
 ghost use Rattle.listing_lines.specs.Line.{hexDigits, byteText, refusedText, refusedNext, fitting, lineText, lineBytes, malformedText, listingLine, faultLine};
@@ -134,7 +134,7 @@ fn show_text(
     out: &mut [u8],
 ) -> usize
     requires { ⌜ Fixed (now desc) (now fixed) × (length (now out) ≡ longestText) ⌝ }
-    requires { ⌜ Sound (described (now desc) (now fixed)) (now rows) used × (0 < used) ⌝ }
+    requires { ⌜ SoundRows (described (now desc) (now fixed)) (now rows) used × (0 < used) ⌝ }
     ensures { λ r. ⌜ ShowsText (now (desc .entry)) (now (fixed .entry)) (now (rows .entry)) (now (out .entry)) (now (out .exit)) r ⌝ }
 {
     let line = text::print_text(desc, fixed, rows, used, out);

@@ -16,12 +16,12 @@ use Rattle.acceptance.specs.declared.Acceptance.the-variants.{Accepted, Rejecte
 use Rattle.acceptance.specs.declared.Rejection.{Rejection}
 use Rattle.listing_lines.specs.Line.{lineAt, nextAt, malformedText, faultText, lineBytes}
 use Rattle.listing_text.specs.Listing.{Window, noLines, before, linesOf, windowFrom, windowOf, faultFrom, faultWindow, listingFrom, codePart, descriptionPart, inputWindow}
-use Rattle.listing_text.specs.Runs.{Cut, joined, placeAfter, endOf}
+use Rattle.listing_text.specs.Runs.{SplitsAt, joined, placeAfter, endOf}
 use Rattle.listing_text.proofs.Moving.{Moves, moves-on, line-length, no-line, line-here}
 
 module _ (d : Description) (c : ℕ) (s : List ℕ) where
   abbrev Good : (room at : ℕ) → Window → Type 0
-  Good room at w = Cut (linesOf d c s) (length s) room at w
+  Good room at w = SplitsAt (linesOf d c s) (length s) room at w
 
   window-cut : (most room at : ℕ) → length s ≤ at + most → Good room at (windowFrom d c s most room at)
   unfolding windowFrom
@@ -70,7 +70,7 @@ module _ (d : Description) (c : ℕ) (s : List ℕ) where
           record { rest = refl; last = λ z. no-line d c s at b; more = λ z. let y : _≡_ {A = ℕ} 0 1 = cc in absurd (omega arith); since = omega arith; on = λ g r. absurd (omega arith) }
       go false e again = fit (leb-false (length s) at e) again (leb (length line) room) refl
 
-  pub window-of : (room at : ℕ) → Cut (linesOf d c s) (length s) room at (windowOf d c s room at)
+  pub window-of : (room at : ℕ) → SplitsAt (linesOf d c s) (length s) room at (windowOf d c s room at)
   unfolding windowOf
   window-of room at = window-cut (length s) room at (omega arith)
 
@@ -78,12 +78,12 @@ fault-length : (x : Rejection) → length (faultText x) ≤ lineBytes
 unfolding malformedText
 fault-length x = simp length-append (omega (arith, digits-length 10 (firstValue x), digits-length 10 (secondValue x)))
 
-fault-window : (x : Rejection) (room at : ℕ) → Cut (faultFrom x) 1 room at (faultWindow x room at)
+fault-window : (x : Rejection) (room at : ℕ) → SplitsAt (faultFrom x) 1 room at (faultWindow x room at)
 unfolding faultWindow faultFrom
 fault-window x room at = go (eqb at 0) refl
   where
     here : at ≡ 0 → (t : Bool) → leb (length (faultText x)) room ≡ t
-        → Cut (faultFrom x) 1 room at (cond t (before (faultText x) (noLines 1 false)) (noLines 0 true))
+        → SplitsAt (faultFrom x) 1 room at (cond t (before (faultText x) (noLines 1 false)) (noLines 0 true))
     here z true e =
         record {
           rest = rw z (sym (append-nil (faultText x)) ∙ ap (λ (l : List ℕ). l ++ []) (sym (append-nil (faultText x))));
@@ -102,14 +102,14 @@ fault-window x room at = go (eqb at 0) refl
         }
 
     go : (t : Bool) → eqb at 0 ≡ t
-        → Cut (faultFrom x) 1 room at (cond t (cond (leb (length (faultText x)) room) (before (faultText x) (noLines 1 false)) (noLines 0 true)) (noLines at false))
+        → SplitsAt (faultFrom x) 1 room at (cond t (cond (leb (length (faultText x)) room) (before (faultText x) (noLines 1 false)) (noLines 0 true)) (noLines at false))
     go true e = here (eqb-true at 0 e) (leb (length (faultText x)) room) refl
     go false e =
         let z = eqb-false at 0 e in
         record { rest = refl; last = λ q. rw (ne-eqb at 0 z); more = λ q. let y : _≡_ {A = ℕ} 0 1 = cc in absurd (omega arith); since = omega arith; on = λ g r. absurd (omega (arith, z)) }
 
 -- a window of what the program prints
-pub input-window : (input : List ℕ) (room at : ℕ) → Cut (listingFrom input) (endOf input) room at (inputWindow input room at)
+pub input-window : (input : List ℕ) (room at : ℕ) → SplitsAt (listingFrom input) (endOf input) room at (inputWindow input room at)
 unfolding listingFrom inputWindow endOf
 input-window input room at = go (acceptanceOf (descriptionPart input))
   where
@@ -120,7 +120,7 @@ input-window input room at = go (acceptanceOf (descriptionPart input))
     s = codePart input
 
     go : (a : Acceptance)
-        → Cut (λ at. accepting (λ x. faultFrom x at) (λ d. linesOf d 0 s at) b a) (accepting (λ x. 1) (λ d. length s) b a) room at
+        → SplitsAt (λ at. accepting (λ x. faultFrom x at) (λ d. linesOf d 0 s at) b a) (accepting (λ x. 1) (λ d. length s) b a) room at
         (accepting (λ x. faultWindow x room at) (λ d. windowOf d 0 s room at) b a)
     go (Accepted l) = window-of (description b l) 0 s room at
     go (Rejected x) = fault-window x room at

@@ -6,7 +6,7 @@ use native.Mathlib.Decide.{decLt}
 use native.Mathlib.Omega.{arith}
 use lib.ListN.{length, take, drop, length-drop, drop-of-length-le}
 use lib.Seq.{take-all, take-nil}
-use Rattle.format.specs.Bytes.{wordAt}
+use Rattle.format.specs.Bytes.{u16At}
 use Rattle.listing_text.specs.Listing.{mostCode, descriptionPart, codePart, splitOf}
 use Rattle.listing_text.specs.declared.Split.{Split}
 
@@ -18,7 +18,7 @@ pub split-none : (input : List ℕ) → length input < 2 → record { start = le
 unfolding splitOf
 split-none input h = same-split _ _ _ _ _ _ (omega arith) (omega arith) (omega arith)
 
-pub split-at : (input : List ℕ) (word end last : ℕ) → 2 ≤ length input → word ≡ wordAt input 0 → end ≡ min (2 + word) (length input)
+pub split-at : (input : List ℕ) (word end last : ℕ) → 2 ≤ length input → word ≡ u16At input 0 → end ≡ min (2 + word) (length input)
     → last ≡ min (2 + word + mostCode) (length input) → record { start = 2; end = end; last = last } ≡ splitOf input
 unfolding splitOf
 split-at input word end last h w f g = same-split _ _ _ _ _ _ (omega arith) (f ∙ ap (λ (k : ℕ). min (2 + k) (length input)) w) (g ∙ ap (λ (k : ℕ). min (2 + k + mostCode) (length input)) w)
@@ -36,7 +36,7 @@ no-bytes n at l h = ap (take n) (drop-of-length-le l {i = at} h) ∙ take-nil n
 
 -- what stands at the places
 module _ (input : List ℕ) (r : Split) (is : r ≡ splitOf input) where
-  places : (r .start ≡ min 2 (length input)) × (r .end ≡ min (2 + wordAt input 0) (length input)) × (r .last ≡ min (2 + wordAt input 0 + mostCode) (length input))
+  places : (r .start ≡ min 2 (length input)) × (r .end ≡ min (2 + u16At input 0) (length input)) × (r .last ≡ min (2 + u16At input 0 + mostCode) (length input))
   unfolding splitOf
   places = (ap (λ (x : Split). x .start) is, ap (λ (x : Split). x .end) is, ap (λ (x : Split). x .last) is)
 
@@ -47,26 +47,26 @@ module _ (input : List ℕ) (r : Split) (is : r ≡ splitOf input) where
   unfolding descriptionPart
   description-there = go (decLt (length input) 2)
     where
-      go : Dec (length input < 2) → take (r .end - r .start) (drop (r .start) input) ≡ take (wordAt input 0) (drop 2 input)
+      go : Dec (length input < 2) → take (r .end - r .start) (drop (r .start) input) ≡ take (u16At input 0) (drop 2 input)
       go (yes h) =
           let p = places in
-          no-bytes (r .end - r .start) (r .start) input (omega (arith, p .0)) ∙ sym (no-bytes (wordAt input 0) 2 input (omega arith))
+          no-bytes (r .end - r .start) (r .start) input (omega (arith, p .0)) ∙ sym (no-bytes (u16At input 0) 2 input (omega arith))
       go (no h) =
           let p = places in
           let z : r .start ≡ 2 = omega (arith, p .0) in
           ap (λ (k : ℕ). take (r .end - r .start) (drop k input)) z
-          ∙ take-few (wordAt input 0) (r .end - r .start) (drop 2 input) (omega (arith, p .0, p .1, length-drop 2 input))
+          ∙ take-few (u16At input 0) (r .end - r .start) (drop 2 input) (omega (arith, p .0, p .1, length-drop 2 input))
 
   pub code-there : take (r .last - r .end) (drop (r .end) input) ≡ codePart input
   unfolding codePart
-  code-there = go (decLt (length input) (2 + wordAt input 0))
+  code-there = go (decLt (length input) (2 + u16At input 0))
     where
-      go : Dec (length input < 2 + wordAt input 0) → take (r .last - r .end) (drop (r .end) input) ≡ take mostCode (drop (2 + wordAt input 0) input)
+      go : Dec (length input < 2 + u16At input 0) → take (r .last - r .end) (drop (r .end) input) ≡ take mostCode (drop (2 + u16At input 0) input)
       go (yes h) =
           let p = places in
-          no-bytes (r .last - r .end) (r .end) input (omega (arith, p .1)) ∙ sym (no-bytes mostCode (2 + wordAt input 0) input (omega arith))
+          no-bytes (r .last - r .end) (r .end) input (omega (arith, p .1)) ∙ sym (no-bytes mostCode (2 + u16At input 0) input (omega arith))
       go (no h) =
           let p = places in
-          let z : r .end ≡ 2 + wordAt input 0 = omega (arith, p .1) in
+          let z : r .end ≡ 2 + u16At input 0 = omega (arith, p .1) in
           ap (λ (k : ℕ). take (r .last - r .end) (drop k input)) z
-          ∙ take-few mostCode (r .last - r .end) (drop (2 + wordAt input 0) input) (omega (arith, p .1, p .2, length-drop (2 + wordAt input 0) input))
+          ∙ take-few mostCode (r .last - r .end) (drop (2 + u16At input 0) input) (omega (arith, p .1, p .2, length-drop (2 + u16At input 0) input))

@@ -35,16 +35,16 @@ module _ (b a₀ : List ℕ) (c : ℕ) (s old : List ℕ) (from : ℕ) where
   abbrev d₀ : Description
   d₀ = described b a₀
 
-  pub record Turn (a out : List ℕ) (at bytes lines : ℕ) : Type 0 where
+  pub record LoopState (a out : List ℕ) (at bytes lines : ℕ) : Type 0 where
     pub fixed : Fixed b a
     pub same : described b a ≡ described b a₀
     pub going : Going (described b a₀) c s old from out at bytes lines
     pub kept : length out ≡ length old
 
-  pub first-turn : Fixed b a₀ → Turn a₀ old from 0 0
+  pub first-turn : Fixed b a₀ → LoopState a₀ old from 0 0
   first-turn f = record { fixed = f; same = refl; going = going-first d₀ c s old from; kept = refl }
 
-  module _ (a out : List ℕ) (at bytes lines : ℕ) (t : Turn a out at bytes lines) where
+  module _ (a out : List ℕ) (at bytes lines : ℕ) (t : LoopState a out at bytes lines) where
     pub room-left : bytes ≤ length out
     room-left = omega (arith, bytes-fit d₀ c s old from out at bytes lines (t .going), t .kept)
 
@@ -104,7 +104,7 @@ module _ (b a₀ : List ℕ) (c : ℕ) (s old : List ℕ) (from : ℕ) where
 
             pub next-turn : (a′ : List ℕ) → a′ ≡ toldLength a s at → (out′ : List ℕ)
                 → out′ ≡ take bytes out ++ (mid ++ drop (length out - bytes) (drop bytes out))
-                → Turn a′ out′ (line .next) (bytes + k) (lines + 1)
+                → LoopState a′ out′ (line .next) (bytes + k) (lines + 1)
             next-turn a′ told out′ q =
                 let w = puts-wrote put-line e in
                 let g = t .going in

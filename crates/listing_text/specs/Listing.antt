@@ -4,7 +4,7 @@ use mathlib.Core.Bool.{Bool, true, false, cond}
 use mathlib.Core.List.{List, [], _∷_, _++_}
 use lib.Dec.{leb, eqb}
 use lib.ListN.{length, take, drop}
-use Rattle.format.specs.Bytes.{wordAt}
+use Rattle.format.specs.Bytes.{u16At}
 use Rattle.format.specs.Description.{Description}
 use Rattle.acceptance.specs.Acceptance.{acceptanceOf, accepting, rejectionNumber, rejectionValues}
 use Rattle.acceptance.specs.declared.Rejection.{Rejection}
@@ -87,18 +87,18 @@ mostCode = 4096
 -- "The program reads a two-byte length, a description, then at most 4,096 bytes of code, and ignores the rest"; "Input that ends
 -- early is judged by the description bytes there are."
 unfoldable pub descriptionPart : List ℕ → List ℕ
-descriptionPart input = take (wordAt input 0) (drop 2 input)
+descriptionPart input = take (u16At input 0) (drop 2 input)
 
 unfoldable pub codePart : List ℕ → List ℕ
-codePart input = take mostCode (drop (2 + wordAt input 0) input)
+codePart input = take mostCode (drop (2 + u16At input 0) input)
 
 -- where the two parts stand: the description from start to end, the code from there to last
 unfoldable pub splitOf : List ℕ → Split
 splitOf input =
     record {
       start = min 2 (length input);
-      end = min (2 + wordAt input 0) (length input);
-      last = min (2 + wordAt input 0 + mostCode) (length input);
+      end = min (2 + u16At input 0) (length input);
+      last = min (2 + u16At input 0 + mostCode) (length input);
     }
 
 -- "A bad description prints one line": from place 0 that line, behind it nothing

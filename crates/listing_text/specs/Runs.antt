@@ -11,7 +11,7 @@ use Rattle.listing_text.specs.Listing.{Window, descriptionPart, codePart
 -- a window from a place on, where `left` is what is left to list from each place on, and nothing is from `end` on: its text comes
 -- first, then what is left from its next place on; that is nothing unless the room ended it, and else there is a line more; and room
 -- for a line moves on
-pub record Cut (left : ℕ → List ℕ) (end room at : ℕ) (w : Window) : Type 0 where
+pub record SplitsAt (left : ℕ → List ℕ) (end room at : ℕ) (w : Window) : Type 0 where
   pub rest : left at ≡ w .text ++ left (w .next)
   pub last : w .full ≡ false → left (w .next) ≡ []
   pub more : w .full ≡ true → w .next < end

@@ -7,11 +7,11 @@ ghost use mathlib.Core.Bool.{true};
 ghost use mathlib.Core.Path.{_≡_};
 ghost use Prim.Native.Nat.{_+_, _≤_, min};
 ghost use lib.ListN.{length};
-ghost use Rattle.format.specs.Check.{Formed};
+ghost use Rattle.format.specs.Check.{WellFormed};
 ghost use Rattle.format.specs.Description.{description};
 ghost use Rattle.listing_text.specs.Listing.{splitOf, noLines, windowOf, faultWindow, partOf, inputWindow, listOf, listAfter};
 ghost use Rattle.printing.specs.Writing.{over};
-ghost use Rattle.listing_text.specs.Windows.{Lists};
+ghost use Rattle.listing_text.specs.Windows.{Lists, ListsIn};
 
 // How many bytes and lines were written, the next place, and whether the text is what ended them.
 pub struct Part {
@@ -46,8 +46,8 @@ fn list_in(
     from: usize,
     out: &mut [u8],
 ) -> Part
-    requires { ⌜ Formed (now desc) layout ⌝ }
-    ensures { λ r. ⌜ Lists (windowOf (description (now (desc .entry)) layout) context (now (code .entry)) (length (now (out .entry))) from) (now (out .entry)) r (now (out .exit)) ⌝ }
+    requires { ⌜ WellFormed (now desc) layout ⌝ }
+    ensures { λ r. ⌜ ListsIn (now (desc .entry)) layout context (now (code .entry)) from (now (out .entry)) r (now (out .exit)) ⌝ }
 {
     let mut fixed = setting::fill(desc, layout, true);
     let mut at = from;

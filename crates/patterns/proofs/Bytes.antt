@@ -15,13 +15,13 @@ use Rattle.lists.proofs.Below.{all-at}
 use Rattle.lists.proofs.Bools.{and-left, and-right, same}
 use Rattle.bits.specs.Bits.{bit, isSet}
 use Rattle.bits.proofs.Digits.{low-bit, high-bit}
-use Rattle.format.specs.Bytes.{byteAt, wordAt, longAt, quadAt}
+use Rattle.format.specs.Bytes.{byteAt, u16At, u32At, u64At}
 use Rattle.patterns.specs.Matching.{byteBit, present}
 use Rattle.patterns.specs.Words.{inputOf}
 use Rattle.patterns.specs.declared.Input.{Input}
 
 -- bytes that are the same give the same number
-pub quad-same : (a b : List ℕ) → ((k : ℕ) → k < 8 → getD a k 0 ≡ getD b k 0) → quadAt a 0 ≡ quadAt b 0
+pub quad-same : (a b : List ℕ) → ((k : ℕ) → k < 8 → getD a k 0 ≡ getD b k 0) → u64At a 0 ≡ u64At b 0
 quad-same a b e =
     rw (
       e 0 (lit< tt),
@@ -35,10 +35,10 @@ quad-same a b e =
     )
 
 module _ (s : List ℕ) (bytes : (i : ℕ) → getD s i 0 < 256) where
-  word-bit : (at k : ℕ) → k < 16 → bit (wordAt s at) k ≡ bit (byteAt s (at + k / 8)) (k % 8)
+  word-bit : (at k : ℕ) → k < 16 → bit (u16At s at) k ≡ bit (byteAt s (at + k / 8)) (k % 8)
   word-bit at k h = go (decLt k 8)
     where
-      go : Dec (k < 8) → bit (wordAt s at) k ≡ bit (byteAt s (at + k / 8)) (k % 8)
+      go : Dec (k < 8) → bit (u16At s at) k ≡ bit (byteAt s (at + k / 8)) (k % 8)
       go (yes l) =
           let a : at + k / 8 ≡ at = omega arith in
           let b : k % 8 ≡ k = omega arith in
@@ -48,37 +48,37 @@ module _ (s : List ℕ) (bytes : (i : ℕ) → getD s i 0 < 256) where
           let b : k % 8 ≡ k - 8 = omega arith in
           high-bit 8 (byteAt s at) (byteAt s (at + 1)) k (bytes at) (omega arith) ∙ rw (a, b)
 
-  word-small : (at : ℕ) → wordAt s at < 2 ^ 16
+  word-small : (at : ℕ) → u16At s at < 2 ^ 16
   word-small at = omega (arith, bytes at, bytes (at + 1))
 
-  long-bit : (at k : ℕ) → k < 32 → bit (longAt s at) k ≡ bit (byteAt s (at + k / 8)) (k % 8)
+  long-bit : (at k : ℕ) → k < 32 → bit (u32At s at) k ≡ bit (byteAt s (at + k / 8)) (k % 8)
   long-bit at k h = go (decLt k 16)
     where
-      go : Dec (k < 16) → bit (longAt s at) k ≡ bit (byteAt s (at + k / 8)) (k % 8)
-      go (yes l) = low-bit 16 (wordAt s at) (wordAt s (at + 2)) k (word-small at) l ∙ word-bit at k l
+      go : Dec (k < 16) → bit (u32At s at) k ≡ bit (byteAt s (at + k / 8)) (k % 8)
+      go (yes l) = low-bit 16 (u16At s at) (u16At s (at + 2)) k (word-small at) l ∙ word-bit at k l
       go (no l) =
           let a : at + 2 + (k - 16) / 8 ≡ at + k / 8 = omega arith in
           let b : (k - 16) % 8 ≡ k % 8 = omega arith in
-          high-bit 16 (wordAt s at) (wordAt s (at + 2)) k (word-small at) (omega arith)
+          high-bit 16 (u16At s at) (u16At s (at + 2)) k (word-small at) (omega arith)
           ∙ (word-bit (at + 2) (k - 16) (omega arith) ∙ rw (a, b))
 
-  pub long-small : (at : ℕ) → longAt s at < 2 ^ 32
+  pub long-small : (at : ℕ) → u32At s at < 2 ^ 32
   long-small at = omega (arith, word-small at, word-small (at + 2))
 
-  pub quad-small : (at : ℕ) → quadAt s at < 2 ^ 64
+  pub quad-small : (at : ℕ) → u64At s at < 2 ^ 64
   quad-small at = omega (arith, long-small at, long-small (at + 4))
 
-  pub quad-bit : (k : ℕ) → k < 64 → bit (quadAt s 0) k ≡ byteBit s k
+  pub quad-bit : (k : ℕ) → k < 64 → bit (u64At s 0) k ≡ byteBit s k
   quad-bit k h = go (decLt k 32)
     where
-      go : Dec (k < 32) → bit (quadAt s 0) k ≡ byteBit s k
+      go : Dec (k < 32) → bit (u64At s 0) k ≡ byteBit s k
       go (yes l) =
           let a : 0 + k / 8 ≡ k / 8 = omega arith in
-          low-bit 32 (longAt s 0) (longAt s 4) k (long-small 0) l ∙ (long-bit 0 k l ∙ rw a)
+          low-bit 32 (u32At s 0) (u32At s 4) k (long-small 0) l ∙ (long-bit 0 k l ∙ rw a)
       go (no l) =
           let a : 4 + (k - 32) / 8 ≡ k / 8 = omega arith in
           let b : (k - 32) % 8 ≡ k % 8 = omega arith in
-          high-bit 32 (longAt s 0) (longAt s 4) k (long-small 0) (omega arith)
+          high-bit 32 (u32At s 0) (u32At s 4) k (long-small 0) (omega arith)
           ∙ (long-bit 4 (k - 32) (omega arith) ∙ rw (a, b))
 
 -- the masks of n bytes, tried for every n and bit
@@ -129,13 +129,13 @@ pub record Holds (s : List ℕ) (c : ℕ) (i : Input) : Type 0 where
 
 module _ (s : List ℕ) (c : ℕ) where
   -- the words of eight bytes or more ..
-  pub whole-input : 8 ≤ length s → record { word = quadAt s 0; here = 2 ^ 64 - 1; missing = 0; context = c } ≡ inputOf s c
+  pub whole-input : 8 ≤ length s → record { word = u64At s 0; here = 2 ^ 64 - 1; missing = 0; context = c } ≡ inputOf s c
   unfolding inputOf
   whole-input h = let e : min 8 (length s) ≡ 8 = omega arith in rw e
 
   -- .. and of fewer
   pub few-input : length s < 8
-      → record { word = quadAt s 0; here = 2 ^ (8 * length s) - 1; missing = 2 ^ 64 - 1 - (2 ^ (8 * length s) - 1); context = c } ≡ inputOf s c
+      → record { word = u64At s 0; here = 2 ^ (8 * length s) - 1; missing = 2 ^ 64 - 1 - (2 ^ (8 * length s) - 1); context = c } ≡ inputOf s c
   unfolding inputOf
   few-input h = let e : min 8 (length s) ≡ length s = omega arith in rw e
 

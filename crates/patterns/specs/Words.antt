@@ -5,7 +5,7 @@ use mathlib.Core.List.{List}
 use lib.Bits.{bitAnd, bitXor}
 use lib.Dec.{eqb}
 use lib.ListN.{length}
-use Rattle.format.specs.Bytes.{quadAt}
+use Rattle.format.specs.Bytes.{u64At}
 use Rattle.format.specs.declared.Pattern.{Pattern}
 use Rattle.patterns.specs.declared.Input.{Input}
 
@@ -21,7 +21,7 @@ pub record Small (p : Pattern) : Type 0 where
 unfoldable pub inputOf : List ℕ → ℕ → Input
 inputOf s c =
     let here = 2 ^ (8 * min 8 (length s)) - 1 in
-    record { word = quadAt s 0; here = here; missing = 2 ^ 64 - 1 - here; context = c }
+    record { word = u64At s 0; here = here; missing = 2 ^ 64 - 1 - here; context = c }
 
 -- no masked bit that is here differs
 abbrev pub wordsAgree : Pattern → Input → Bool

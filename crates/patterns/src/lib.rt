@@ -3,7 +3,7 @@ use format::Pattern;
 ghost use mathlib.Core.Path.{_≡_};
 ghost use Prim.Native.Nat.{_-_, _<_, _*_, _^_};
 ghost use lib.ListN.{length};
-ghost use Rattle.format.specs.Bytes.{quadAt};
+ghost use Rattle.format.specs.Bytes.{u64At};
 ghost use Rattle.patterns.specs.Relations.{inside, overlap, overlapOf, equal, weight};
 ghost use Rattle.patterns.specs.Words.{inputOf, wordsAgree, wordsWhole};
 
@@ -21,7 +21,7 @@ pub struct Input {
 // The number of fewer than eight bytes.
 fn padded(code: &[u8]) -> u64
     requires { ⌜ length (now code) < 8 ⌝ }
-    ensures { λ r. ⌜ r ≡ quadAt (now (code .entry)) 0 ⌝ }
+    ensures { λ r. ⌜ r ≡ u64At (now (code .entry)) 0 ⌝ }
 {
     let mut eight = [0u8; 8];
     let mut i = 0;

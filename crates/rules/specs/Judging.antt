@@ -5,7 +5,7 @@ use mathlib.Core.List.{List}
 use mathlib.Core.Path.{_≡_}
 use lib.ListN.{getD}
 use Rattle.format.specs.Numbers.{byteValues, operandsEach, piecesEach}
-use Rattle.format.specs.Layout.{Room}
+use Rattle.format.specs.Layout.{SectionsInBounds}
 use Rattle.format.specs.Description.{description, constructorsOf, noConstructor}
 use Rattle.format.specs.Rules.{hasTable}
 use Rattle.format.specs.declared.Constructor.{Constructor}
@@ -15,7 +15,7 @@ use Rattle.rules.specs.Marks.{Marks}
 
 -- the sections lie inside the bytes, and the tables that have a constructor are marked
 pub record Marked (b : List ℕ) (l : Layout) (marks : List Bool) : Type 0 where
-  pub room : Room b l
+  pub room : SectionsInBounds b l
   pub tables : Marks byteValues marks (hasTable (description b l))
 
 -- .. and c is record i of section 3

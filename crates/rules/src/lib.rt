@@ -14,7 +14,7 @@ ghost use lib.Dec.{leb, ltb, eqb};
 ghost use lib.ListN.{getD};
 ghost use Rattle.lists.specs.Below.{allBelow};
 ghost use Rattle.format.specs.Numbers.{namesBits, byteValues};
-ghost use Rattle.format.specs.Layout.{Room};
+ghost use Rattle.format.specs.Layout.{SectionsInBounds};
 ghost use Rattle.format.specs.Description.{description, fieldsOf};
 ghost use Rattle.format.specs.Rules.{sourceOk, bitsOk, lookOk, fieldOk, nameOk, tableOk, hasTable, minimumOk, valueOk, rangeOk, shapeOk, anchorFits, operandFits, pieceFits, constructorOk, fieldFits, operandOk, pieceOk, letterOk};
 ghost use Rattle.rules.specs.Marks.{Marks, shownMarks};
@@ -113,7 +113,7 @@ fn range_ok(r: Range, most: u8, count: usize) -> bool
 }
 
 fn table_ok(desc: &[u8], layout: Layout, i: usize) -> bool
-    requires { ⌜ Room (now desc) layout ⌝ }
+    requires { ⌜ SectionsInBounds (now desc) layout ⌝ }
     requires { ⌜ i < layout .constructors .count ⌝ }
     ensures { λ r. ⌜ r ≡ tableOk (description (now (desc .entry)) layout) i ⌝ }
 {
@@ -126,7 +126,7 @@ fn table_ok(desc: &[u8], layout: Layout, i: usize) -> bool
 }
 
 fn shape_ok(desc: &[u8], layout: Layout, i: usize, c: Constructor) -> bool
-    requires { ⌜ Room (now desc) layout ⌝ }
+    requires { ⌜ SectionsInBounds (now desc) layout ⌝ }
     requires { ⌜ i < layout .constructors .count ⌝ }
     ensures { λ r. ⌜ r ≡ shapeOk (description (now (desc .entry)) layout) i c ⌝ }
 {
@@ -139,7 +139,7 @@ fn shape_ok(desc: &[u8], layout: Layout, i: usize, c: Constructor) -> bool
 
 // The tables that have a constructor, gathered once for all operands that name one.
 pub fn tables_of(desc: &[u8], layout: Layout) -> [bool; format::BYTE_VALUES]
-    requires { ⌜ Room (now desc) layout ⌝ }
+    requires { ⌜ SectionsInBounds (now desc) layout ⌝ }
     ensures { λ r. ⌜ Marks byteValues r (hasTable (description (now (desc .entry)) layout)) ⌝ }
 {
     let mut marks = [false; format::BYTE_VALUES];
@@ -198,7 +198,7 @@ fn piece_fits(p: Piece, operands: u8, shown: &[bool; SHOWN as usize]) -> bool
 
 // No branch depends on a piece's kind, which is hard to foretell: the loop keeps the answer so far.
 fn pieces_ok(desc: &[u8], layout: Layout, c: Constructor) -> bool
-    requires { ⌜ Room (now desc) layout ⌝ }
+    requires { ⌜ SectionsInBounds (now desc) layout ⌝ }
     requires { ⌜ Shaped (layout .operands .count) (layout .pieces .count) c ⌝ }
     ensures { λ r. ⌜ r ≡ allBelow (c .pieces .count) (pieceFits (description (now (desc .entry)) layout) c) ⌝ }
 {
@@ -239,7 +239,7 @@ pub fn constructor_ok(
 }
 
 fn field_fits(desc: &[u8], layout: Layout, x: Operand) -> bool
-    requires { ⌜ Room (now desc) layout ⌝ }
+    requires { ⌜ SectionsInBounds (now desc) layout ⌝ }
     ensures { λ r. ⌜ r ≡ fieldFits (fieldsOf (now (desc .entry)) layout) x ⌝ }
 {
     let index = x.index as usize;
@@ -252,7 +252,7 @@ fn field_fits(desc: &[u8], layout: Layout, x: Operand) -> bool
 }
 
 pub fn operand_ok(desc: &[u8], layout: Layout, x: Operand) -> bool
-    requires { ⌜ Room (now desc) layout ⌝ }
+    requires { ⌜ SectionsInBounds (now desc) layout ⌝ }
     ensures { λ r. ⌜ r ≡ operandOk (fieldsOf (now (desc .entry)) layout) x ⌝ }
 {
     if x.kind == 0 {

@@ -3,8 +3,8 @@ use format::Constructor;
 use format::Counted;
 use format::Cursor;
 use format::Field;
-use format::Laid;
 use format::Layout;
+use format::LayoutResult;
 use format::Name;
 use format::Operand;
 use format::Pattern;
@@ -13,50 +13,50 @@ use format::Section;
 ghost use mathlib.Core.Path.{_≡_};
 ghost use Prim.Native.Nat.{_<_};
 ghost use lib.ListN.{getD};
-ghost use Rattle.format.specs.Layout.{Room, layoutOf, namesFrom, constructorsFrom, operandsFrom, piecesFrom, textFrom};
+ghost use Rattle.format.specs.Layout.{SectionsInBounds, layoutOf, namesFrom, constructorsFrom, operandsFrom, piecesFrom, textFrom};
 ghost use Rattle.format.specs.Description.{description, fieldsOf, namesOf, constructorsOf, operandsOf, piecesOf, textOf, noField, noName, noConstructor, noOperand, noPiece};
 ghost use Rattle.format.specs.Rules.{tableAt};
 
 // Each of these reads its section's count, puts the section into the layout, and goes on with the sections behind it.
-fn lay_text(desc: &[u8], layout: Layout, c: Cursor) -> Laid
+fn read_text(desc: &[u8], layout: Layout, c: Cursor) -> LayoutResult
     ensures { λ r. ⌜ r ≡ textFrom (now (desc .entry)) layout (c .at) ⌝ }
 {
     let mut layout = layout;
     let Counted::Found(text, end) = c.count(desc, 0, format::LETTERS, format::LETTER_BYTES) else {
-        return Laid::Fault(6);
+        return LayoutResult::Fault(6);
     };
     layout.text = text;
     if end.at == desc.len() {
-        Laid::At(layout)
+        LayoutResult::At(layout)
     } else {
-        Laid::Fault(6)
+        LayoutResult::Fault(6)
     }
 }
 
-fn lay_pieces(desc: &[u8], layout: Layout, c: Cursor) -> Laid
+fn read_pieces(desc: &[u8], layout: Layout, c: Cursor) -> LayoutResult
     ensures { λ r. ⌜ r ≡ piecesFrom (now (desc .entry)) layout (c .at) ⌝ }
 {
     let mut layout = layout;
     let Counted::Found(pieces, next) = c.count(desc, 0, format::PIECES, format::PIECE_BYTES) else {
-        return Laid::Fault(5);
+        return LayoutResult::Fault(5);
     };
     layout.pieces = pieces;
-    lay_text(desc, layout, next)
+    read_text(desc, layout, next)
 }
 
-fn lay_operands(desc: &[u8], layout: Layout, c: Cursor) -> Laid
+fn read_operands(desc: &[u8], layout: Layout, c: Cursor) -> LayoutResult
     ensures { λ r. ⌜ r ≡ operandsFrom (now (desc .entry)) layout (c .at) ⌝ }
 {
     let mut layout = layout;
     let Counted::Found(operands, next) = c.count(desc, 0, format::OPERANDS, format::OPERAND_BYTES)
     else {
-        return Laid::Fault(4);
+        return LayoutResult::Fault(4);
     };
     layout.operands = operands;
-    lay_pieces(desc, layout, next)
+    read_pieces(desc, layout, next)
 }
 
-fn lay_constructors(desc: &[u8], layout: Layout, c: Cursor) -> Laid
+fn read_constructors(desc: &[u8], layout: Layout, c: Cursor) -> LayoutResult
     ensures { λ r. ⌜ r ≡ constructorsFrom (now (desc .entry)) layout (c .at) ⌝ }
 {
     let mut layout = layout;
@@ -66,24 +66,24 @@ fn lay_constructors(desc: &[u8], layout: Layout, c: Cursor) -> Laid
         format::CONSTRUCTORS,
         format::CONSTRUCTOR_BYTES,
     ) else {
-        return Laid::Fault(3);
+        return LayoutResult::Fault(3);
     };
     layout.constructors = constructors;
-    lay_operands(desc, layout, next)
+    read_operands(desc, layout, next)
 }
 
-fn lay_names(desc: &[u8], layout: Layout, c: Cursor) -> Laid
+fn read_names(desc: &[u8], layout: Layout, c: Cursor) -> LayoutResult
     ensures { λ r. ⌜ r ≡ namesFrom (now (desc .entry)) layout (c .at) ⌝ }
 {
     let mut layout = layout;
     let Counted::Found(names, next) = c.count(desc, 0, format::NAMES, format::NAME_BYTES) else {
-        return Laid::Fault(2);
+        return LayoutResult::Fault(2);
     };
     layout.names = names;
-    lay_constructors(desc, layout, next)
+    read_constructors(desc, layout, next)
 }
 
-pub fn lay(desc: &[u8]) -> Laid
+pub fn read_layout(desc: &[u8]) -> LayoutResult
     ensures { λ r. ⌜ r ≡ layoutOf (now (desc .entry)) ⌝ }
 {
     let empty = Section { start: 0, count: 0 };
@@ -98,14 +98,14 @@ pub fn lay(desc: &[u8]) -> Laid
     let start = Cursor { at: 0 };
     let Counted::Found(fields, next) = start.count(desc, 0, format::FIELDS, format::FIELD_BYTES)
     else {
-        return Laid::Fault(1);
+        return LayoutResult::Fault(1);
     };
     layout.fields = fields;
-    lay_names(desc, layout, next)
+    read_names(desc, layout, next)
 }
 
 pub fn field_at(desc: &[u8], layout: Layout, i: usize) -> Field
-    requires { ⌜ Room (now desc) layout ⌝ }
+    requires { ⌜ SectionsInBounds (now desc) layout ⌝ }
     requires { ⌜ i < layout .fields .count ⌝ }
     ensures { λ r. ⌜ r ≡ getD (fieldsOf (now (desc .entry)) layout) i noField ⌝ }
 {
@@ -116,7 +116,7 @@ pub fn field_at(desc: &[u8], layout: Layout, i: usize) -> Field
 }
 
 pub fn name_at(desc: &[u8], layout: Layout, i: usize) -> Name
-    requires { ⌜ Room (now desc) layout ⌝ }
+    requires { ⌜ SectionsInBounds (now desc) layout ⌝ }
     requires { ⌜ i < layout .names .count ⌝ }
     ensures { λ r. ⌜ r ≡ getD (namesOf (now (desc .entry)) layout) i noName ⌝ }
 {
@@ -127,7 +127,7 @@ pub fn name_at(desc: &[u8], layout: Layout, i: usize) -> Name
 }
 
 pub fn constructor_at(desc: &[u8], layout: Layout, i: usize) -> Constructor
-    requires { ⌜ Room (now desc) layout ⌝ }
+    requires { ⌜ SectionsInBounds (now desc) layout ⌝ }
     requires { ⌜ i < layout .constructors .count ⌝ }
     ensures { λ r. ⌜ r ≡ getD (constructorsOf (now (desc .entry)) layout) i noConstructor ⌝ }
 {
@@ -139,7 +139,7 @@ pub fn constructor_at(desc: &[u8], layout: Layout, i: usize) -> Constructor
 
 // A constructor's pattern alone, for choosing.
 pub fn pattern_of(desc: &[u8], layout: Layout, i: usize) -> Pattern
-    requires { ⌜ Room (now desc) layout ⌝ }
+    requires { ⌜ SectionsInBounds (now desc) layout ⌝ }
     requires { ⌜ i < layout .constructors .count ⌝ }
     ensures { λ r. ⌜ r ≡ getD (constructorsOf (now (desc .entry)) layout) i noConstructor .pattern ⌝ }
 {
@@ -151,7 +151,7 @@ pub fn pattern_of(desc: &[u8], layout: Layout, i: usize) -> Pattern
 
 // A constructor's table alone.
 pub fn table_at(desc: &[u8], layout: Layout, i: usize) -> u8
-    requires { ⌜ Room (now desc) layout ⌝ }
+    requires { ⌜ SectionsInBounds (now desc) layout ⌝ }
     requires { ⌜ i < layout .constructors .count ⌝ }
     ensures { λ r. ⌜ r ≡ tableAt (description (now (desc .entry)) layout) i ⌝ }
 {
@@ -160,7 +160,7 @@ pub fn table_at(desc: &[u8], layout: Layout, i: usize) -> u8
 }
 
 pub fn operand_at(desc: &[u8], layout: Layout, i: usize) -> Operand
-    requires { ⌜ Room (now desc) layout ⌝ }
+    requires { ⌜ SectionsInBounds (now desc) layout ⌝ }
     requires { ⌜ i < layout .operands .count ⌝ }
     ensures { λ r. ⌜ r ≡ getD (operandsOf (now (desc .entry)) layout) i noOperand ⌝ }
 {
@@ -171,7 +171,7 @@ pub fn operand_at(desc: &[u8], layout: Layout, i: usize) -> Operand
 }
 
 pub fn piece_at(desc: &[u8], layout: Layout, i: usize) -> Piece
-    requires { ⌜ Room (now desc) layout ⌝ }
+    requires { ⌜ SectionsInBounds (now desc) layout ⌝ }
     requires { ⌜ i < layout .pieces .count ⌝ }
     ensures { λ r. ⌜ r ≡ getD (piecesOf (now (desc .entry)) layout) i noPiece ⌝ }
 {
@@ -182,7 +182,7 @@ pub fn piece_at(desc: &[u8], layout: Layout, i: usize) -> Piece
 }
 
 pub fn letter_at(desc: &[u8], layout: Layout, i: usize) -> u8
-    requires { ⌜ Room (now desc) layout ⌝ }
+    requires { ⌜ SectionsInBounds (now desc) layout ⌝ }
     requires { ⌜ i < layout .text .count ⌝ }
     ensures { λ r. ⌜ r ≡ getD (textOf (now (desc .entry)) layout) i 0 ⌝ }
 {

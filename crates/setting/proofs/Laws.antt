@@ -8,28 +8,28 @@ use lib.ListN.{length, getD, drop, set, length-set}
 use lib.Seq.{getD-drop, drop-set-lt, getD-set-same, getD-set-other}
 use Rattle.lists.proofs.Tab.{tab-at, tab-length}
 use Rattle.format.specs.Numbers.{tables, mostConstructors}
-use Rattle.format.specs.Check.{Formed}
+use Rattle.format.specs.Check.{WellFormed}
 use Rattle.format.specs.Description.{Description, description}
 use Rattle.format.specs.Tables.{tableFirst, tableEnd}
 use Rattle.format.specs.declared.Layout.{Layout}
-use Rattle.format.proofs.Formation.{Obeyed, obeyed}
+use Rattle.format.proofs.Formation.{RulesHold, obeyed}
 use Rattle.format.proofs.Lists.{constructors-length}
 use Rattle.format.proofs.Tables.{end-is, first-within}
 use Rattle.tables.specs.Starts.{Starts}
 use Rattle.tables.specs.declared.Table.{Table}
 use Rattle.tables.proofs.Range.{in-section}
-use Rattle.choice.specs.Choosing.{choose}
-use Rattle.choice.specs.declared.Choice.{Choice}
-use Rattle.choice.specs.declared.Choice.the-variants as choice
-use Rattle.choosing.specs.Table.{patternFrom}
-use Rattle.choosing_facts.proofs.Taken.{taken-facts}
+use Rattle.choosing_spec.specs.Choosing.{choose}
+use Rattle.choosing_spec.specs.declared.Choice.{Choice}
+use Rattle.choosing_spec.specs.declared.Choice.the-variants as choice
+use Rattle.choosing_spec.specs.Table.{patternFrom}
+use Rattle.choosing_theorems.proofs.Taken.{taken-facts}
 use Rattle.decoding_spec.specs.State.{Setting}
 use Rattle.decoding_spec.specs.Walk.{numberedFrom, choiceIn}
 use Rattle.setting.specs.Fixed.{totalPlace, gatheredPlace, startsPlace, flag, startsOf, fixedOf, layoutIn, settingIn, Fixed}
 use Rattle.setting.specs.Ranges.{RangeOf}
 
 -- each record obeys its rules
-pub obeyed-in : (b a : List ℕ) → Fixed b a → Obeyed (settingIn b a .description)
+pub obeyed-in : (b a : List ℕ) → Fixed b a → RulesHold (settingIn b a .description)
 unfolding settingIn
 obeyed-in b a f = obeyed b (layoutIn a) (f .formed)
 
@@ -42,7 +42,7 @@ unfolding settingIn
 few-in b a f = rw (constructors-length b (layoutIn a)) (f .formed .room .few)
 
 -- the numbers that `fill` makes are those of their description
-pub fixed-of : (b : List ℕ) (l : Layout) (gather : Bool) → Formed b l → Fixed b (fixedOf (description b l) l gather)
+pub fixed-of : (b : List ℕ) (l : Layout) (gather : Bool) → WellFormed b l → Fixed b (fixedOf (description b l) l gather)
 unfolding fixedOf
 fixed-of b l true f = record { long = let e = tab-length (tableFirst (description b l)) (tables + 1) in omega arith; formed = f; gathered = λ z. record { at = λ t h. tab-at (tableFirst (description b l)) (tables + 1) t 0 (omega arith) } }
 fixed-of b l false f = record { long = refl; formed = f; gathered = λ z. absurd (omega arith) }
@@ -72,7 +72,7 @@ module _ (b a : List ℕ) (n : ℕ) where
   unfolding settingIn
   setting-for h = rw (layout-for, getD-set-same a totalPlace n 0 h)
 
-module _ (d : Description) (o : Obeyed d) (t : ℕ) (low : t < tables) (a : List ℕ) (starts : Starts d (drop startsPlace a)) where
+module _ (d : Description) (o : RulesHold d) (t : ℕ) (low : t < tables) (a : List ℕ) (starts : Starts d (drop startsPlace a)) where
   here : getD a (startsPlace + t) 0 ≡ tableFirst d t
   here = sym (getD-drop startsPlace a t 0) ∙ starts .at t (omega arith)
 
@@ -85,7 +85,7 @@ module _ (d : Description) (o : Obeyed d) (t : ℕ) (low : t < tables) (a : List
   pub gathered-range : RangeOf d t (record { first = getD a (startsPlace + t) 0; count = getD a (startsPlace + t + 1) 0 - getD a (startsPlace + t) 0 })
   gathered-range = record { first = here; count = rw (here, next) }
 
-module _ (d : Description) (o : Obeyed d) (t : ℕ) (r : Table) (range : RangeOf d t r) where
+module _ (d : Description) (o : RulesHold d) (t : ℕ) (r : Table) (range : RangeOf d t r) where
   pub range-inside : r .first + r .count ≤ length (d .constructors)
   range-inside = in-section d o t (r .first) (r .count) (range .first) (range .count)
 

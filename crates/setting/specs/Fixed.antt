@@ -7,7 +7,7 @@ use mathlib.Core.Path.{_≡_}
 use lib.ListN.{length, getD, drop, replicate}
 use Rattle.lists.specs.Tab.{tab}
 use Rattle.format.specs.Numbers.{tables}
-use Rattle.format.specs.Check.{Formed}
+use Rattle.format.specs.Check.{WellFormed}
 use Rattle.format.specs.Description.{Description, description}
 use Rattle.format.specs.Tables.{tableFirst}
 use Rattle.format.specs.declared.Section.{Section}
@@ -68,5 +68,5 @@ settingIn b a = record { description = description b (layoutIn a); total = getD 
 -- the numbers are those of a well-formed description
 pub record Fixed (b a : List ℕ) : Type 0 where
   pub long : length a ≡ startsPlace + (tables + 1)
-  pub formed : Formed b (layoutIn a)
+  pub formed : WellFormed b (layoutIn a)
   pub gathered : getD a gatheredPlace 0 ≡ 1 → Starts (description b (layoutIn a)) (drop startsPlace a)

@@ -1,5 +1,5 @@
 // What is fixed along a walk, as numbers behind one reference, and what is read through it.
-use choice::Choice;
+use choosing_spec::Choice;
 use format::Constructor;
 use format::Field;
 use format::Layout;
@@ -13,7 +13,7 @@ ghost use mathlib.Core.Path.{_≡_};
 ghost use Prim.Native.Nat.{_+_, _-_, _<_, _≤_};
 ghost use lib.ListN.{length, getD, take, drop, set};
 ghost use Rattle.format.specs.Numbers.{tables};
-ghost use Rattle.format.specs.Check.{Formed};
+ghost use Rattle.format.specs.Check.{WellFormed};
 ghost use Rattle.format.specs.Description.{description, noField, noName, noConstructor, noOperand, noPiece};
 ghost use Rattle.format.specs.Tables.{rootOf};
 ghost use Rattle.tables.specs.Starts.{Starts};
@@ -72,7 +72,7 @@ pub fn layout_of(fixed: &[usize; FIXED]) -> Layout
 
 // The first constructors behind the other numbers.
 fn with_starts(desc: &[u8], layout: Layout, fixed: [usize; FIXED]) -> [usize; FIXED]
-    requires { ⌜ Formed (now desc) layout ⌝ }
+    requires { ⌜ WellFormed (now desc) layout ⌝ }
     ensures { λ r. ⌜ r ≡ take startsPlace fixed ++ startsOf (description (now (desc .entry)) layout) true ⌝ }
 {
     let starts = tables::starts(desc, layout);
@@ -87,7 +87,7 @@ fn with_starts(desc: &[u8], layout: Layout, fixed: [usize; FIXED]) -> [usize; FI
 
 // The numbers for a description; whoever asks for tables many times has their first constructors gathered.
 pub fn fill(desc: &[u8], layout: Layout, gather: bool) -> [usize; FIXED]
-    requires { ⌜ Formed (now desc) layout ⌝ }
+    requires { ⌜ WellFormed (now desc) layout ⌝ }
     ensures { λ r. ⌜ r ≡ fixedOf (description (now (desc .entry)) layout) layout gather ⌝ }
 {
     let mut fixed = [0usize; FIXED];

@@ -8,10 +8,10 @@ use lib.ListN.{length}
 use Rattle.format.specs.Description.{Description}
 use Rattle.format.specs.Rules.{hasTable}
 use Rattle.format.specs.Tables.{tableFirst, tableEnd}
-use Rattle.format.proofs.Formation.{Obeyed}
+use Rattle.format.proofs.Formation.{RulesHold}
 use Rattle.format.proofs.Tables.{has-range, first-within, end-within}
 
-module _ (d : Description) (o : Obeyed d) (t first count : ℕ) (f : first ≡ tableFirst d t) (g : count ≡ tableEnd d t - tableFirst d t) where
+module _ (d : Description) (o : RulesHold d) (t first count : ℕ) (f : first ≡ tableFirst d t) (g : count ≡ tableEnd d t - tableFirst d t) where
   pub absent : count ≡ 0 → hasTable d t ≡ false
   absent z = has-range d o t ∙ le-ltb (tableFirst d t) (tableEnd d t) (omega arith)
 

@@ -6,9 +6,9 @@ ghost use Prim.Native.Nat.{_+_, _-_, _<_, _≤_};
 ghost use lib.Dec.{ltb};
 ghost use lib.ListN.{getD};
 ghost use Rattle.format.specs.Numbers.{tables};
-ghost use Rattle.format.specs.Layout.{Room};
+ghost use Rattle.format.specs.Layout.{SectionsInBounds};
 ghost use Rattle.format.specs.Description.{description};
-ghost use Rattle.format.specs.Check.{Formed};
+ghost use Rattle.format.specs.Check.{WellFormed};
 ghost use Rattle.format.specs.Rules.{tableAt};
 ghost use Rattle.format.specs.Tables.{rootOf, tableFirst, tableCount};
 ghost use Rattle.tables.specs.Starts.{Starts};
@@ -23,7 +23,7 @@ pub struct Table {
 }
 
 pub fn root(desc: &[u8], layout: Layout) -> u8
-    requires { ⌜ Room (now desc) layout ⌝ }
+    requires { ⌜ SectionsInBounds (now desc) layout ⌝ }
     ensures { λ r. ⌜ r ≡ rootOf (description (now (desc .entry)) layout) ⌝ }
 {
     let last = layout.constructors.count - 1;
@@ -32,7 +32,7 @@ pub fn root(desc: &[u8], layout: Layout) -> u8
 
 // The first constructor whose table is not below t, by halving: the tables never fall.
 fn first_from(desc: &[u8], layout: Layout, t: usize) -> usize
-    requires { ⌜ Formed (now desc) layout ⌝ }
+    requires { ⌜ WellFormed (now desc) layout ⌝ }
     ensures { λ r. ⌜ r ≡ tableFirst (description (now (desc .entry)) layout) t ⌝ }
 {
     let mut low = 0;
@@ -50,7 +50,7 @@ fn first_from(desc: &[u8], layout: Layout, t: usize) -> usize
 }
 
 pub fn table_of(desc: &[u8], layout: Layout, t: u32) -> Table
-    requires { ⌜ Formed (now desc) layout ⌝ }
+    requires { ⌜ WellFormed (now desc) layout ⌝ }
     ensures { λ r. ⌜ r .first ≡ tableFirst (description (now (desc .entry)) layout) t ⌝ }
     ensures { λ r. ⌜ r .count ≡ tableCount (description (now (desc .entry)) layout) t ⌝ }
 {
@@ -64,7 +64,7 @@ pub fn table_of(desc: &[u8], layout: Layout, t: u32) -> Table
 }
 
 fn is_below(desc: &[u8], layout: Layout, i: usize, t: usize) -> bool
-    requires { ⌜ Room (now desc) layout ⌝ }
+    requires { ⌜ SectionsInBounds (now desc) layout ⌝ }
     ensures { λ r. ⌜ r ≡ (ltb i (layout .constructors .count) && ltb (tableAt (description (now (desc .entry)) layout) i) t) ⌝ }
 {
     if i < layout.constructors.count {
@@ -76,7 +76,7 @@ fn is_below(desc: &[u8], layout: Layout, i: usize, t: usize) -> bool
 
 // The first constructor of every table, for those who ask many times: one pass over the constructors and the tables' numbers.
 pub fn starts(desc: &[u8], layout: Layout) -> [usize; STARTS]
-    requires { ⌜ Formed (now desc) layout ⌝ }
+    requires { ⌜ WellFormed (now desc) layout ⌝ }
     ensures { λ r. ⌜ Starts (description (now (desc .entry)) layout) r ⌝ }
 {
     let mut starts = [0usize; STARTS];

@@ -17,7 +17,7 @@ use Rattle.format.specs.declared.Name.{Name}
 use Rattle.format.specs.declared.Range.{Range}
 use Rattle.format.specs.declared.Constructor.{Constructor}
 use Rattle.format.specs.declared.Piece.{Piece}
-use Rattle.format.proofs.Formation.{Obeyed}
+use Rattle.format.proofs.Formation.{RulesHold}
 use Rattle.format.proofs.Tables.{shaped}
 use Rattle.text.specs.Places.{Showable}
 
@@ -57,7 +57,7 @@ within d k q e z =
       leb-true n (k .operands .count) (and-right (leb 1 n) (leb n (k .operands .count)) both),
     )
 
-module _ (d : Description) (o : Obeyed d) where
+module _ (d : Description) (o : RulesHold d) where
   pub pieces-inside : (n : ℕ) → n < length (d .constructors)
       → getD (d .constructors) n noConstructor .pieces .first + getD (d .constructors) n noConstructor .pieces .count ≤ length (d .pieces)
   pieces-inside n h =

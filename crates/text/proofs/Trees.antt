@@ -11,13 +11,13 @@ use lib.Seq.{getD-drop, drop-drop, drop-at}
 use Rattle.format.specs.Numbers.{mostRows}
 use Rattle.format.specs.Description.{Description, noConstructor}
 use Rattle.format.specs.declared.Piece.{Piece}
-use Rattle.format.proofs.Formation.{Obeyed}
+use Rattle.format.proofs.Formation.{RulesHold}
 use Rattle.decoding_spec.specs.Tree.{Node, Nodes, built, numbered, named, none, more}
 use Rattle.decoding_theorems.specs.Facts.{Shaped, ShapedAll, countOf}
 use Rattle.walking.specs.Scratch.{scratchNumbers, scratchLength, SizedRow, sized, sizedOf, sizedOfAll, scratchRow, scratchOf, putAt, written}
 use Rattle.walking.proofs.Writing.{scratch-length, scratch-append, written-length}
 use Rattle.text.specs.Text.{pieceText, piecesText, constructorText, textOf, textsOf}
-use Rattle.text.specs.Places.{cell, kindAt, numberAt, lastAt, sizeAt, skip, textAt, Sound, Showable}
+use Rattle.text.specs.Places.{cell, kindAt, numberAt, lastAt, sizeAt, skip, textAt, SoundRows, Showable}
 use Rattle.text.proofs.Pieces.{showable}
 
 by-cases : {P Q : Type 0} → Dec P → (P → Q) → ((P → ⊥) → Q) → Q
@@ -35,7 +35,7 @@ scratch-split : (a b : List SizedRow) (rest : List ℤ) → scratchOf (a ++ b) +
 scratch-split a b rest = rw scratch-append (append-assoc (scratchOf a) (scratchOf b) rest)
 
 -- a constructor's pieces ask for no other texts than its operands'
-module _ (d : Description) (o : Obeyed d) (k : ℕ) (h : k < length (d .constructors)) (f g : ℕ → List ℕ)
+module _ (d : Description) (o : RulesHold d) (k : ℕ) (h : k < length (d .constructors)) (f g : ℕ → List ℕ)
     (same : (n : ℕ) → 1 ≤ n → n ≤ getD (d .constructors) k noConstructor .operands .count → f n ≡ g n) where
   piece-same : (p : Piece) → Showable d (getD (d .constructors) k noConstructor) p → pieceText d f p ≡ pieceText d g p
   unfolding pieceText
@@ -129,7 +129,7 @@ module _ (rows : List ℤ) where
       (omega (arith, next .0), omega (arith, next .1))
 
   module _ (d : Description) where
-    -- what `Sound` says of one row, where the rows end at `end`
+    -- what `SoundRows` says of one row, where the rows end at `end`
     record SoundRow (end r : ℕ) : Type 0 where
       constructors : kindAt rows r ≡ 0 → numberAt rows r < length (d .constructors)
       operands : kindAt rows r ≡ 0 → (j : ℕ) → j < getD (d .constructors) (numberAt rows r) noConstructor .operands .count
@@ -210,7 +210,7 @@ module _ (rows : List ℤ) where
             (λ p. parts-sound f (r + sizeAt rows r) rest (shaped .1) (neighbours n f r rest h) (omega arith) q (omega arith) (omega arith))
 
     -- the text by the places is the tree's, where the depth leaves none of its rows out
-    module _ (o : Obeyed d) where
+    module _ (o : RulesHold d) where
       mutual
         unfolding sizedOf sizedOfAll countOf skip textAt textOf textsOf
 
@@ -252,7 +252,7 @@ module _ (n : Node) (old : List ℤ) (long : length old ≡ scratchLength) where
   stands-all = rw long
 
   module _ (d : Description) (shaped : Shaped d n) (few : length (sizedOf n) ≤ mostRows) where
-    pub sound-tree : Sound d (written 0 (sizedOf n) old) (length (sizedOf n))
+    pub sound-tree : SoundRows d (written 0 (sizedOf n) old) (length (sizedOf n))
     sound-tree =
         record {
           long = written-length 0 (sizedOf n) old (omega arith) ∙ long;
@@ -266,5 +266,5 @@ module _ (n : Node) (old : List ℤ) (long : length old ≡ scratchLength) where
         row : (r : ℕ) → r < length (sizedOf n) → SoundRow (written 0 (sizedOf n) old) d (length (sizedOf n)) r
         row r l = part-sound (written 0 (sizedOf n) old) d (length (sizedOf n)) n 0 _ shaped stands-all (omega arith) r (omega arith) (omega arith)
 
-    pub text-tree : Obeyed d → textAt d (written 0 (sizedOf n) old) (suc mostRows) 0 ≡ textOf d n
+    pub text-tree : RulesHold d → textAt d (written 0 (sizedOf n) old) (suc mostRows) 0 ≡ textOf d n
     text-tree o = part-text (written 0 (sizedOf n) old) d o n 0 (suc mostRows) _ shaped stands-all (omega arith)

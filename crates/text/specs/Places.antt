@@ -59,7 +59,7 @@ module _ (d : Description) (rows : List ℤ) where
   operandText r depth n = textAt depth (skip rows (r + 1) (n - 1))
 
   -- the rows' numbers are those of the description's records, and each operand of a constructor has its row behind it
-  pub record Sound (used : ℕ) : Type 0 where
+  pub record SoundRows (used : ℕ) : Type 0 where
     pub long : length rows ≡ scratchLength
     pub few : used ≤ mostRows
     pub constructors : (r : ℕ) → r < used → kindAt rows r ≡ 0 → numberAt rows r < length (d .constructors)

@@ -11,7 +11,7 @@ use Rattle.printing.specs.Numerals.{numberText}
 use Rattle.printing.specs.declared.Printed.{Printed}
 use Rattle.setting.specs.Fixed.{Fixed, settingIn}
 use Rattle.text.specs.Text.{baseOf, letters, pieceText, constructorText, nameText}
-use Rattle.text.specs.Places.{kindAt, numberAt, textAt, operandText, Sound, Showable}
+use Rattle.text.specs.Places.{kindAt, numberAt, textAt, operandText, SoundRows, Showable}
 use Rattle.text.specs.Append.{Appends}
 
 -- the description that the numbers are fixed for
@@ -21,7 +21,7 @@ described b a = settingIn b a .description
 -- sound rows of it, a row among those used, and a place in the text
 pub record Printable (b a : List ℕ) (rows : List ℤ) (used r : ℕ) (out : List ℕ) (at : ℕ) : Type 0 where
   pub fixed : Fixed b a
-  pub sound : Sound (described b a) rows used
+  pub sound : SoundRows (described b a) rows used
   pub row : r < used
   pub place : at ≤ length out
 

@@ -13,7 +13,7 @@ ghost use Rattle.printing.specs.Numerals.{numberText};
 ghost use Rattle.setting.specs.Fixed.{Fixed};
 ghost use Rattle.walking.specs.Scratch.{scratchLength};
 ghost use Rattle.text.specs.Text.{baseOf};
-ghost use Rattle.text.specs.Places.{kindAt, skip, Sound};
+ghost use Rattle.text.specs.Places.{kindAt, skip, SoundRows};
 ghost use Rattle.text.specs.Append.{Appends};
 ghost use Rattle.text.specs.Lines.{lineOf, lentAfter};
 ghost use Rattle.text.specs.Prints.{described, wholeText, Printable, ValueRow, PieceRow, LettersPrinted, NamePrinted, FieldPrinted, PartPrinted, PiecePrinted, ConstructorPrinted};
@@ -237,7 +237,7 @@ pub fn print_text(
     out: &mut [u8],
 ) -> Line
     requires { ⌜ Fixed (now desc) (now fixed) ⌝ }
-    requires { ⌜ Sound (described (now desc) (now fixed)) (now rows) used × (0 < used) ⌝ }
+    requires { ⌜ SoundRows (described (now desc) (now fixed)) (now rows) used × (0 < used) ⌝ }
     ensures { λ r. ⌜ r ≡ lineOf (wholeText (now (desc .entry)) (now (fixed .entry)) (now (rows .entry))) (length (now (out .entry))) ⌝ }
     ensures { λ _. ⌜ now (out .exit) ≡ lentAfter (wholeText (now (desc .entry)) (now (fixed .entry)) (now (rows .entry))) (now (out .entry)) ⌝ }
 {

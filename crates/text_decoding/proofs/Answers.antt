@@ -7,7 +7,7 @@ use native.Mathlib.Omega.{arith}
 use lib.IntN.{ℤ, pos}
 use lib.ListN.{length, replicate}
 use Rattle.format.specs.Numbers.{mostRows}
-use Rattle.format.specs.Check.{Formed}
+use Rattle.format.specs.Check.{WellFormed}
 use Rattle.format.specs.Description.{Description, description}
 use Rattle.format.specs.declared.Layout.{Layout}
 use Rattle.format.proofs.Formation.{obeyed}
@@ -23,7 +23,7 @@ use Rattle.walking.specs.Walks.{instructionAs, resultAt, toldLength}
 use Rattle.walking.specs.declared.Instruction.{Instruction}
 use Rattle.walking.specs.declared.Walked.the-variants as walked
 use Rattle.text.specs.Text.{textOf}
-use Rattle.text.specs.Places.{textAt, Sound}
+use Rattle.text.specs.Places.{textAt, SoundRows}
 use Rattle.text.specs.Lines.{lineOf, lentAfter}
 use Rattle.text.specs.Prints.{described, wholeText}
 use Rattle.text.specs.declared.Line.{Line}
@@ -61,7 +61,7 @@ was-refused (done n l st) r z = let never : _≡_ {A = ℕ} 0 1 = cc in absurd (
 was-refused (refused q) r z = let same : q ≡ r = cc in ap refused same
 
 -- the numbers as they are filled, and as they are told the code's length
-module _ (b : List ℕ) (l : Layout) (formed : Formed b l) (a : List ℕ) (fills : a ≡ fixedOf (description b l) l false) where
+module _ (b : List ℕ) (l : Layout) (formed : WellFormed b l) (a : List ℕ) (fills : a ≡ fixedOf (description b l) l false) where
   pub filled : Fixed b a
   filled = rw fills (fixed-of b l false formed)
 
@@ -95,7 +95,7 @@ module _ (b : List ℕ) (l : Layout) (formed : Formed b l) (a : List ℕ) (fills
       some-rows = rows-used (description b l) (obeyed b l formed) c s (found .node) size st (found .is)
 
       module _ (a′ : List ℕ) (tells : a′ ≡ toldLength a s 0) where
-        pub sound-rows : Sound (described b a′) (i .rows) (st .used)
+        pub sound-rows : SoundRows (described b a′) (i .rows) (st .used)
         sound-rows =
             rw (told-described s a′ tells, found .held)
             (rows-sound (description b l) (obeyed b l formed) c s (found .node) size st (found .is))

@@ -7,7 +7,7 @@ use text::Line;
 use walking::Walked;
 ghost use mathlib.Core.Path.{_≡_};
 ghost use lib.ListN.{length};
-ghost use Rattle.format.specs.Check.{Formed};
+ghost use Rattle.format.specs.Check.{WellFormed};
 ghost use Rattle.format.specs.Description.{description};
 ghost use Rattle.text_decoding.specs.TextDecoding.{instructionAnswer, instructionBuffer, decodeTextOf, textAfter};
 
@@ -20,7 +20,7 @@ pub enum Texted {
 }
 
 fn decode_in(desc: &[u8], layout: Layout, context: u32, code: &[u8], out: &mut [u8]) -> Texted
-    requires { ⌜ Formed (now desc) layout ⌝ }
+    requires { ⌜ WellFormed (now desc) layout ⌝ }
     ensures { λ r. ⌜ r ≡ instructionAnswer (description (now (desc .entry)) layout) context (now (code .entry)) (length (now (out .entry))) ⌝ }
     ensures { λ _. ⌜ now (out .exit) ≡ instructionBuffer (description (now (desc .entry)) layout) context (now (code .entry)) (now (out .entry)) ⌝ }
 {

@@ -12,13 +12,13 @@ use Rattle.format.specs.declared.Pattern.{Pattern}
 use Rattle.acceptance.specs.Acceptance.{acceptanceOf}
 use Rattle.acceptance.specs.declared.Acceptance.{Acceptance}
 use Rattle.acceptance.specs.declared.Acceptance.the-variants as acceptance
-use Rattle.choosing.specs.Table.{patternFrom}
-use Rattle.trees.specs.Form.{formOf}
-use Rattle.trees.specs.Judged.{bytesOf, Accepts, Rejects, Judged}
-use Rattle.trees.specs.declared.Form.{Form}
-use Rattle.trees.specs.declared.Form.the-variants as form
-use Rattle.trees.specs.declared.Verdict.{Verdict}
-use Rattle.trees.specs.declared.Verdict.the-variants as verdict
+use Rattle.choosing_spec.specs.Table.{patternFrom}
+use Rattle.tree_spec.specs.Form.{formOf}
+use Rattle.tree_spec.specs.Verdicts.{bytesOf, Accepts, Rejects, VerdictFor}
+use Rattle.tree_spec.specs.declared.Form.{Form}
+use Rattle.tree_spec.specs.declared.Form.the-variants as form
+use Rattle.tree_spec.specs.declared.Verdict.{Verdict}
+use Rattle.tree_spec.specs.declared.Verdict.the-variants as verdict
 use Rattle.tree_check.specs.Entry.{said, ByForm, ByTable, ByAcceptance, Answers}
 use Rattle.tree_check.specs.Facts.{Alike}
 use Rattle.tree_check.specs.declared.Answer.{Answer}
@@ -42,7 +42,7 @@ module _ (first : ℕ) (at : ℕ → Pattern) (n : ℕ) (b : List ℕ) where
       go (no h) (yes z) = absurd (not-before j x y i w c q r z)
       go (no h) (no z) = omega arith
 
-  alike : (u v : Verdict) → Judged first at n b u → Judged first at n b v → Alike (said u) (said v)
+  alike : (u v : Verdict) → VerdictFor first at n b u → VerdictFor first at n b v → Alike (said u) (said v)
   alike verdict.Accepted verdict.Accepted r q = refl
   alike verdict.Accepted (verdict.Rejected j x y) r q = absurd (never-both j x y r q)
   alike (verdict.Rejected i w c) verdict.Accepted r q = absurd (never-both i w c q r)

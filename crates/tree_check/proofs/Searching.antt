@@ -11,19 +11,19 @@ use Rattle.lists.specs.Below.{anyBelow}
 use Rattle.lists.proofs.Below.{any-more}
 use Rattle.format.specs.declared.Pattern.{Pattern}
 use Rattle.tables.specs.declared.Table.{Table}
-use Rattle.trees.specs.Nodes.{nowhere, kindAt}
+use Rattle.tree_spec.specs.Nodes.{noPlace, kindAt}
 use Rattle.tree_rule.specs.Rule.{refutes, showsWrong}
 use Rattle.tree_check.specs.Search.{ClearLeaf, ClearBefore}
 
 -- what the code tests of record j is the rule: of a leaf that says none the named pattern does not count
 pub shows-is : (first : ℕ) (at : ℕ → Pattern) (p : Pattern) (v j : ℕ) (named q : Pattern)
-    → ((v ≡ nowhere → ⊥) → named ≡ at (v - first)) → q ≡ at j
-    → refutes (eqb (first + j) v) (eqb v nowhere) p named q ≡ showsWrong first at p v j
+    → ((v ≡ noPlace → ⊥) → named ≡ at (v - first)) → q ≡ at j
+    → refutes (eqb (first + j) v) (eqb v noPlace) p named q ≡ showsWrong first at p v j
 unfolding showsWrong refutes
-shows-is first at p v j named q f e = go (ℕ-discrete v nowhere)
+shows-is first at p v j named q f e = go (ℕ-discrete v noPlace)
   where
-    go : Dec (v ≡ nowhere) → refutes (eqb (first + j) v) (eqb v nowhere) p named q ≡ refutes (eqb (first + j) v) (eqb v nowhere) p (at (v - first)) (at j)
-    go (yes m) = rw (eq-eqb v nowhere m, e)
+    go : Dec (v ≡ noPlace) → refutes (eqb (first + j) v) (eqb v noPlace) p named q ≡ refutes (eqb (first + j) v) (eqb v noPlace) p (at (v - first)) (at j)
+    go (yes m) = rw (eq-eqb v noPlace m, e)
     go (no m) = rw (f m, e)
 
 module _ (at : ℕ → Pattern) (table : Table) (tree : List ℕ) where
@@ -42,6 +42,6 @@ none-more ok j e f = any-more ok j ∙ rw (e, f)
 
 -- the same with the path and the leaf's word as the code has them
 pub shown-is : (first : ℕ) (at : ℕ → Pattern) (p p' : Pattern) (v v' j : ℕ) (named q : Pattern) (r : Bool)
-    → p' ≡ p → v' ≡ v → ((v' ≡ nowhere → ⊥) → named ≡ at (v' - first)) → q ≡ at j
-    → r ≡ refutes (eqb (first + j) v') (eqb v' nowhere) p' named q → showsWrong first at p v j ≡ r
+    → p' ≡ p → v' ≡ v → ((v' ≡ noPlace → ⊥) → named ≡ at (v' - first)) → q ≡ at j
+    → r ≡ refutes (eqb (first + j) v') (eqb v' noPlace) p' named q → showsWrong first at p v j ≡ r
 shown-is first at p p' v v' j named q r a b f e s = sym (s ∙ shows-is first at p' v' j named q f e ∙ rw (a, b))

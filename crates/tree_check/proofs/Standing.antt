@@ -7,12 +7,12 @@ use native.Mathlib.Numerals.{add-one}
 use native.Mathlib.Omega.{arith}
 use lib.ListN.{length}
 use Rattle.format.specs.declared.Pattern.{Pattern}
-use Rattle.trees.specs.Nodes.{countOf, kindAt, bitAt, placeAt}
-use Rattle.trees.specs.Form.{start, side, formOf}
-use Rattle.trees.specs.declared.Form.the-variants.{Good}
+use Rattle.tree_spec.specs.Nodes.{countOf, kindAt, bitAt, placeAt}
+use Rattle.tree_spec.specs.Form.{start, side, formOf}
+use Rattle.tree_spec.specs.declared.Form.the-variants.{Good}
 use Rattle.tree_form.proofs.Trees.{Tree, tip, fork, tree-of, good-counted, sized, test-fresh}
-use Rattle.tree_leaves.specs.Path.{pathFrom, pathOf}
-use Rattle.tree_leaves.proofs.Reach.{span, path-end, path-zero, path-one}
+use Rattle.tree_theorems.specs.Path.{pathFrom, pathOf}
+use Rattle.tree_theorems.proofs.Reach.{span, path-end, path-zero, path-one}
 
 pub record Standing (b : List ℕ) (leaf : ℕ) (p : Pattern) (t : ℕ) : Type 0 where
   pub first : ℕ

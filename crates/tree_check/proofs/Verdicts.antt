@@ -5,29 +5,29 @@ use mathlib.Core.Path.{_≡_}
 use native.Mathlib.Omega.{arith}
 use lib.Dec.{eqb}
 use lib.ListN.{getD}
-use Rattle.format.specs.Check.{Formed}
+use Rattle.format.specs.Check.{WellFormed}
 use Rattle.format.specs.Description.{description}
 use Rattle.format.specs.declared.Layout.{Layout}
 use Rattle.format.specs.declared.Pattern.{Pattern}
 use Rattle.format.proofs.Lists.{constructors-length}
 use Rattle.tables.specs.declared.Table.{Table}
-use Rattle.choosing.specs.Table.{patternFrom}
-use Rattle.choice.specs.Sound.{Sound}
-use Rattle.choosing_facts.proofs.None.{none-at}
-use Rattle.clashing.proofs.Facts.{pattern-sound}
-use Rattle.trees.specs.Nodes.{countOf, placeAt}
-use Rattle.trees.specs.Judged.{Accepts, Rejects}
+use Rattle.choosing_spec.specs.Table.{patternFrom}
+use Rattle.choosing_spec.specs.ValidPattern.{ValidPattern}
+use Rattle.choosing_theorems.proofs.None.{none-at}
+use Rattle.clash_check.proofs.Facts.{pattern-sound}
+use Rattle.tree_spec.specs.Nodes.{countOf, placeAt}
+use Rattle.tree_spec.specs.Verdicts.{Accepts, Rejects}
 use Rattle.tree_rule.specs.Rule.{exampleWord, exampleContext}
-use Rattle.tree_leaves.specs.Path.{pathOf}
-use Rattle.tree_leaves.proofs.Judging.{Clear, accepts, rejects}
+use Rattle.tree_theorems.specs.Path.{pathOf}
+use Rattle.tree_theorems.proofs.Judging.{Clear, accepts, rejects}
 use Rattle.tree_check.specs.Search.{Leaves, ClearLeaf, ClearBefore, FirstWrong}
 
-module _ (desc : List ℕ) (layout : Layout) (bytes : (i : ℕ) → getD desc i 0 < 256) (f : Formed desc layout) (table : Table) (tree : List ℕ)
+module _ (desc : List ℕ) (layout : Layout) (bytes : (i : ℕ) → getD desc i 0 < 256) (f : WellFormed desc layout) (table : Table) (tree : List ℕ)
     (count : ℕ) (leaves : Leaves desc layout table tree count) where
   abbrev at : ℕ → Pattern
   at = patternFrom (description desc layout) (table .first)
 
-  sound : (j : ℕ) → j < table .count → Sound (at j)
+  sound : (j : ℕ) → j < table .count → ValidPattern (at j)
   sound j h = pattern-sound desc layout bytes f (table .first) j (rw constructors-length (omega (arith, h, leaves .within)))
 
   clear : (k : ℕ) → ClearLeaf at table tree k → Clear (table .first) at (table .count) tree k

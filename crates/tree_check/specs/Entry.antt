@@ -9,13 +9,13 @@ use Rattle.format.specs.Tables.{tableFirst, tableEnd}
 use Rattle.acceptance.specs.Acceptance.{acceptanceOf, rejectionNumber, rejectionValues}
 use Rattle.acceptance.specs.declared.Acceptance.{Acceptance}
 use Rattle.acceptance.specs.declared.Acceptance.the-variants as acceptance
-use Rattle.choosing.specs.Table.{patternFrom}
-use Rattle.trees.specs.Form.{formOf}
-use Rattle.trees.specs.Judged.{Judged}
-use Rattle.trees.specs.declared.Form.{Form}
-use Rattle.trees.specs.declared.Form.the-variants as form
-use Rattle.trees.specs.declared.Verdict.{Verdict}
-use Rattle.trees.specs.declared.Verdict.the-variants as verdict
+use Rattle.choosing_spec.specs.Table.{patternFrom}
+use Rattle.tree_spec.specs.Form.{formOf}
+use Rattle.tree_spec.specs.Verdicts.{VerdictFor}
+use Rattle.tree_spec.specs.declared.Form.{Form}
+use Rattle.tree_spec.specs.declared.Form.the-variants as form
+use Rattle.tree_spec.specs.declared.Verdict.{Verdict}
+use Rattle.tree_spec.specs.declared.Verdict.the-variants as verdict
 use Rattle.tree_check.specs.declared.Answer.{Answer}
 use Rattle.tree_check.specs.declared.Answer.the-variants.{Accepted, WrongLeaf, Rejected, NoTable, BadTree}
 
@@ -26,7 +26,7 @@ said (verdict.Rejected i w c) = WrongLeaf i w c
 -- a tree for constructors `first` on, n of them: 11 with the node by its form, or accepted or a wrong leaf as demand 3 says
 abbrev pub ByForm : Description → ℕ → ℕ → List ℕ → Form → Answer → Type 0
 ByForm d first n tree (form.Bad k) r = r ≡ BadTree k
-ByForm d first n tree form.Good r = (v : Verdict) × (r ≡ said v) × Judged first (patternFrom d first) n tree v
+ByForm d first n tree form.Good r = (v : Verdict) × (r ≡ said v) × VerdictFor first (patternFrom d first) n tree v
 
 abbrev pub ForRecords : Description → ℕ → ℕ → List ℕ → Answer → Type 0
 ForRecords d first n tree r = ByForm d first n tree (formOf first n tree) r

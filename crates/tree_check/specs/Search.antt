@@ -5,21 +5,21 @@ use mathlib.Core.List.{List}
 use mathlib.Core.Path.{_≡_}
 use Rattle.lists.specs.Below.{anyBelow}
 use Rattle.format.specs.Numbers.{mostConstructors}
-use Rattle.format.specs.Layout.{Room}
+use Rattle.format.specs.Layout.{SectionsInBounds}
 use Rattle.format.specs.declared.Layout.{Layout}
 use Rattle.format.specs.declared.Pattern.{Pattern}
 use Rattle.tables.specs.declared.Table.{Table}
-use Rattle.trees.specs.Nodes.{countOf, kindAt, placeAt}
-use Rattle.trees.specs.Form.{formOf}
-use Rattle.trees.specs.declared.Form.the-variants.{Good}
+use Rattle.tree_spec.specs.Nodes.{countOf, kindAt, placeAt}
+use Rattle.tree_spec.specs.Form.{formOf}
+use Rattle.tree_spec.specs.declared.Form.the-variants.{Good}
 use Rattle.tree_rule.specs.Rule.{showsWrong}
-use Rattle.tree_leaves.specs.Path.{pathOf}
+use Rattle.tree_theorems.specs.Path.{pathOf}
 use Rattle.tree_check.specs.declared.Found.{Found}
 use Rattle.tree_check.specs.declared.Found.the-variants.{At, Nothing}
 
 -- a tree of good form for a table that lies in its section
 pub record Leaves (desc : List ℕ) (layout : Layout) (table : Table) (tree : List ℕ) (count : ℕ) : Type 0 where
-  pub room : Room desc layout
+  pub room : SectionsInBounds desc layout
   pub within : table .first + table .count ≤ layout .constructors .count
   pub low : table .first + table .count ≤ mostConstructors
   pub good : formOf (table .first) (table .count) tree ≡ Good

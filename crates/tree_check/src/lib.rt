@@ -4,19 +4,19 @@ use acceptance::Rejection;
 use format::Layout;
 use format::Pattern;
 use tables::Table;
-use trees::Form;
-use trees::Verdict;
+use tree_spec::Form;
+use tree_spec::Verdict;
 ghost use mathlib.Core.Path.{_≡_};
 ghost use Prim.Native.Nat.{_+_, _-_, _<_, _≤_};
-ghost use Rattle.format.specs.Layout.{Room};
-ghost use Rattle.format.specs.Check.{Formed};
+ghost use Rattle.format.specs.Layout.{SectionsInBounds};
+ghost use Rattle.format.specs.Check.{WellFormed};
 ghost use Rattle.format.specs.Description.{description};
-ghost use Rattle.choosing.specs.Table.{patternsOf};
-ghost use Rattle.trees.specs.Nodes.{nowhere, countOf, kindAt};
-ghost use Rattle.trees.specs.Form.{formOf};
-ghost use Rattle.trees.specs.Judged.{Judged};
-ghost use Rattle.trees.specs.declared.Form.the-variants.{Good};
-ghost use Rattle.tree_leaves.specs.Path.{pathOf};
+ghost use Rattle.choosing.specs.Patterns.{patternsOf};
+ghost use Rattle.tree_spec.specs.Nodes.{noPlace, countOf, kindAt};
+ghost use Rattle.tree_spec.specs.Form.{formOf};
+ghost use Rattle.tree_spec.specs.Verdicts.{VerdictFor};
+ghost use Rattle.tree_spec.specs.declared.Form.the-variants.{Good};
+ghost use Rattle.tree_theorems.specs.Path.{pathOf};
 ghost use Rattle.tree_rule.specs.Rule.{Says, exampleWord, exampleContext};
 ghost use Rattle.tree_check.specs.Search.{Leaves, Sought};
 ghost use Rattle.tree_check.specs.Entry.{ForRecords, ForTable, Answers};
@@ -66,12 +66,12 @@ fn path_to(tree: &[u8], table: Table, leaf: usize) -> Pattern
 
 // The pattern of the constructor that a leaf names; of a leaf that says none, any.
 fn named_by(desc: &[u8], layout: Layout, table: Table, v: usize) -> Pattern
-    requires { ⌜ Room (now desc) layout ⌝ }
+    requires { ⌜ SectionsInBounds (now desc) layout ⌝ }
     requires { ⌜ table .first + table .count ≤ layout .constructors .count ⌝ }
     requires { ⌜ Says (table .first) (table .count) v ⌝ }
-    ensures { λ r. ⌜ ((v ≡ nowhere → ⊥) → r ≡ patternsOf (now (desc .entry)) layout table (v - table .first)) ⌝ }
+    ensures { λ r. ⌜ ((v ≡ noPlace → ⊥) → r ≡ patternsOf (now (desc .entry)) layout table (v - table .first)) ⌝ }
 {
-    if v == trees::NOWHERE {
+    if v == tree_spec::NO_PLACE {
         return Pattern {
             mask: 0,
             value: 0,
@@ -105,7 +105,13 @@ fn first_wrong(desc: &[u8], layout: Layout, table: Table, tree: &[u8], count: us
             let mut j = 0;
             while j < table.count {
                 let q = choosing::row(desc, layout, table.first, j);
-                if tree_rule::shows_wrong(table.first + j == v, v == trees::NOWHERE, p, named, q) {
+                if tree_rule::shows_wrong(
+                    table.first + j == v,
+                    v == tree_spec::NO_PLACE,
+                    p,
+                    named,
+                    q,
+                ) {
                     found = Found::At(i, j);
                     break 'leaves;
                 }
@@ -143,9 +149,9 @@ fn context_against(own: bool, p: Pattern, q: Pattern) -> u32
 
 // A tree of good form: accepted, or the first wrong leaf with an input that proves it.
 fn judge(desc: &[u8], layout: Layout, table: Table, tree: &[u8], count: usize) -> Verdict
-    requires { ⌜ Formed (now desc) layout ⌝ }
+    requires { ⌜ WellFormed (now desc) layout ⌝ }
     requires { ⌜ Leaves (now desc) layout table (now tree) count ⌝ }
-    ensures { λ r. ⌜ Judged (table .first) (patternsOf (now (desc .entry)) layout table) (table .count) (now (tree .entry)) r ⌝ }
+    ensures { λ r. ⌜ VerdictFor (table .first) (patternsOf (now (desc .entry)) layout table) (table .count) (now (tree .entry)) r ⌝ }
 {
     let found = first_wrong(desc, layout, table, tree, count);
     match found {
@@ -166,7 +172,7 @@ fn judge(desc: &[u8], layout: Layout, table: Table, tree: &[u8], count: usize) -
 
 // A table that is there.
 fn tree_for(desc: &[u8], layout: Layout, table: Table, tree: &[u8]) -> Answer
-    requires { ⌜ Formed (now desc) layout ⌝ }
+    requires { ⌜ WellFormed (now desc) layout ⌝ }
     requires { ⌜ table .first + table .count ≤ layout .constructors .count ⌝ }
     ensures { λ r. ⌜ ForRecords (description (now (desc .entry)) layout) (table .first) (table .count) (now (tree .entry)) r ⌝ }
 {
@@ -193,7 +199,7 @@ fn tree_for(desc: &[u8], layout: Layout, table: Table, tree: &[u8]) -> Answer
 }
 
 fn tree_in(desc: &[u8], layout: Layout, t: u32, tree: &[u8]) -> Answer
-    requires { ⌜ Formed (now desc) layout ⌝ }
+    requires { ⌜ WellFormed (now desc) layout ⌝ }
     ensures { λ r. ⌜ ForTable (description (now (desc .entry)) layout) t (now (tree .entry)) r ⌝ }
 {
     let table = tables::table_of(desc, layout, t);

@@ -10,8 +10,8 @@ use lib.Dec.{eqb, leb, ltb}
 use Rattle.lists.proofs.Bools.{and-left, and-right, and3, or-no}
 use Rattle.bits.specs.Bits.{isSet}
 use Rattle.format.specs.declared.Pattern.{Pattern}
-use Rattle.trees.specs.Nodes.{nowhere, kindAt, bitAt, placeAt}
-use Rattle.trees.specs.Form.{leafOk, testOk, nodeOk}
+use Rattle.tree_spec.specs.Nodes.{noPlace, kindAt, bitAt, placeAt}
+use Rattle.tree_spec.specs.Form.{leafOk, testOk, nodeOk}
 
 module _ (p : Pattern) (b : List ℕ) (i : ℕ) where
   -- a test, by its kind
@@ -41,15 +41,15 @@ module _ (first n : ℕ) (p : Pattern) (b : List ℕ) (i : ℕ) (good : nodeOk f
   test-ok f = rw (ne-eqb (kindAt b i) 0 f) at good
 
   -- a leaf says no constructor, or one of the table's
-  pub leaf-place : kindAt b i ≡ 0 → (placeAt b i ≡ nowhere) ⊎ ((first ≤ placeAt b i) × (placeAt b i < first + n))
+  pub leaf-place : kindAt b i ≡ 0 → (placeAt b i ≡ noPlace) ⊎ ((first ≤ placeAt b i) × (placeAt b i < first + n))
   unfolding leafOk
   leaf-place e =
       ⊎-elim
       (λ (h : (leb first (placeAt b i) && ltb (placeAt b i) (first + n)) ≡ true).
       inr (leb-true _ _ (and-left (leb first (placeAt b i)) (ltb (placeAt b i) (first + n)) h), ltb-true _ _ (and-right (leb first (placeAt b i)) (ltb (placeAt b i) (first + n)) h)))
-      (λ (h : eqb (placeAt b i) nowhere ≡ true). inl (eqb-true _ _ h))
-      (either (leb first (placeAt b i) && ltb (placeAt b i) (first + n)) (eqb (placeAt b i) nowhere)
-      (and-right (eqb (bitAt b i) 0) ((leb first (placeAt b i) && ltb (placeAt b i) (first + n)) || eqb (placeAt b i) nowhere) (leaf-ok e)))
+      (λ (h : eqb (placeAt b i) noPlace ≡ true). inl (eqb-true _ _ h))
+      (either (leb first (placeAt b i) && ltb (placeAt b i) (first + n)) (eqb (placeAt b i) noPlace)
+      (and-right (eqb (bitAt b i) 0) ((leb first (placeAt b i) && ltb (placeAt b i) (first + n)) || eqb (placeAt b i) noPlace) (leaf-ok e)))
 
   -- a test is of a bit that the path has not tested
   pub test-bit : (kindAt b i ≡ 0 → ⊥)

@@ -10,7 +10,7 @@ use lib.Dec.{eqb}
 use lib.Pow.{shl-exact, shl-lt, pow-mono}
 use Rattle.format.specs.declared.Pattern.{Pattern}
 use Rattle.patterns.specs.Words.{Small}
-use Rattle.trees.specs.Form.{side}
+use Rattle.tree_spec.specs.Form.{side}
 
 shifted : (w b x : ℕ) → b < w → x ≤ 1 → (x * 2 ^ b) % 2 ^ w ≡ x * 2 ^ b
 shifted w b x h l = shl-exact {a = x} 1 b w (omega arith) (omega arith)

@@ -8,15 +8,15 @@ use native.Mathlib.Omega.{arith}
 use borrow.Author.Tests.{lt-ltb, le-ltb, eq-eqb, ne-eqb}
 use lib.Dec.{eqb}
 use Rattle.format.specs.declared.Pattern.{Pattern}
-use Rattle.trees.specs.Nodes.{nowhere, countOf, kindAt, bitAt, placeAt}
-use Rattle.trees.specs.Form.{start, side, nodeOk, closed, forked, walkOf, ended, counted, formOf}
-use Rattle.trees.specs.declared.Form.the-variants.{Bad}
-use Rattle.trees.specs.declared.Walked.{Walked}
-use Rattle.trees.specs.declared.Walked.the-variants.{End, Fault, Out}
+use Rattle.tree_spec.specs.Nodes.{noPlace, countOf, kindAt, bitAt, placeAt}
+use Rattle.tree_spec.specs.Form.{start, side, nodeOk, closed, forked, walkOf, ended, counted, formOf}
+use Rattle.tree_spec.specs.declared.Form.the-variants.{Bad}
+use Rattle.tree_spec.specs.declared.Subtree.{Subtree}
+use Rattle.tree_spec.specs.declared.Subtree.the-variants.{End, Fault, Out}
 use Rattle.tree_form.proofs.Trees.{walk-next}
 
 -- each level has used a node, so that the nodes left are depth enough
-abbrev pub Walks : ℕ → ℕ → List ℕ → Pattern → ℕ → Walked → Type 0
+abbrev pub Walks : ℕ → ℕ → List ℕ → Pattern → ℕ → Subtree → Type 0
 Walks first n b p i w = (deep : ℕ) → countOf b ≤ i + deep → w ≡ walkOf first n b deep p i
 
 module _ (first n : ℕ) (b : List ℕ) (p : Pattern) (i : ℕ) where
@@ -30,20 +30,20 @@ module _ (first n : ℕ) (b : List ℕ) (p : Pattern) (i : ℕ) where
   walk-fault here f zero h = absurd (omega arith)
   walk-fault here f (suc deep) h = rw (lt-ltb i (countOf b) here, f)
 
-  pub walk-leaf : i < countOf b → nodeOk first n p b i ≡ true → kindAt b i ≡ 0 → Walks first n b p i (End (i + 1) nowhere)
+  pub walk-leaf : i < countOf b → nodeOk first n p b i ≡ true → kindAt b i ≡ 0 → Walks first n b p i (End (i + 1) noPlace)
   unfolding walkOf
   walk-leaf here g k zero h = absurd (omega arith)
   walk-leaf here g k (suc deep) h = rw (lt-ltb i (countOf b) here, g, eq-eqb (kindAt b i) 0 k, add-one i)
 
 -- a test whose zero side is walked: q is the code's path to that side, and z its walk
-pub record Half (first n : ℕ) (b : List ℕ) (p : Pattern) (i : ℕ) (q : Pattern) (z : Walked) : Type 0 where
+pub record Half (first n : ℕ) (b : List ℕ) (p : Pattern) (i : ℕ) (q : Pattern) (z : Subtree) : Type 0 where
   pub here : i < countOf b
   pub good : nodeOk first n p b i ≡ true
   pub test : kindAt b i ≡ 0 → ⊥
   pub path : q ≡ side p (kindAt b i) (bitAt b i) 0
   pub walked : Walks first n b q (i + 1) z
 
-module _ {first n : ℕ} {b : List ℕ} {p : Pattern} {i : ℕ} {q : Pattern} {z : Walked} (half : Half first n b p i q z) where
+module _ {first n : ℕ} {b : List ℕ} {p : Pattern} {i : ℕ} {q : Pattern} {z : Subtree} (half : Half first n b p i q z) where
   forks : (deep : ℕ)
       → walkOf first n b (suc deep) p i
       ≡ forked i (placeAt b i) (walkOf first n b deep (side p (kindAt b i) (bitAt b i) 0) (suc i))
@@ -68,17 +68,17 @@ module _ {first n : ℕ} {b : List ℕ} {p : Pattern} {i : ℕ} {q : Pattern} {z
       let h = walk-next first n b (countOf b) q (i + 1) next low (sym (half .walked (countOf b) (omega arith)) ∙ e) in
       omega arith
 
-  pub walk-both : (next low : ℕ) → z ≡ End next low → (r : Pattern) (o : Walked) → r ≡ side p (kindAt b i) (bitAt b i) 1
-      → Walks first n b r next o → Walks first n b p i (closed (cond (eqb (placeAt b i) next) nowhere i) low o)
+  pub walk-both : (next low : ℕ) → z ≡ End next low → (r : Pattern) (o : Subtree) → r ≡ side p (kindAt b i) (bitAt b i) 1
+      → Walks first n b r next o → Walks first n b p i (closed (cond (eqb (placeAt b i) next) noPlace i) low o)
   walk-both next low e r o one there zero h = absurd (omega arith)
   walk-both next low e r o one there (suc deep) h =
       rw (forks deep, ← zero-side deep h, e, ← one, ← there deep (omega (arith, zero-next next low e)))
 
 module _ (first n : ℕ) (b : List ℕ) where
-  pub form-counted : (w : Walked) → counted b ≡ true → Walks first n b start 0 w → ended (countOf b) w ≡ formOf first n b
+  pub form-counted : (w : Subtree) → counted b ≡ true → Walks first n b start 0 w → ended (countOf b) w ≡ formOf first n b
   unfolding formOf
   form-counted w h walked = rw (h, walked (countOf b) (omega arith))
 
-  pub form-miscounted : counted b ≡ false → Bad nowhere ≡ formOf first n b
+  pub form-miscounted : counted b ≡ false → Bad noPlace ≡ formOf first n b
   unfolding formOf
   form-miscounted h = rw h

@@ -12,11 +12,11 @@ use Rattle.lists.proofs.Bools.{and4}
 use Rattle.bits.specs.Bits.{isSet}
 use Rattle.format.specs.declared.Pattern.{Pattern}
 use Rattle.patterns.specs.Words.{Small}
-use Rattle.trees.specs.Nodes.{mostNodes, nowhere, countOf, kindAt, bitAt, placeAt}
-use Rattle.trees.specs.Form.{start, side, nodeOk, closed, forked, walkOf, ended, counted, formOf}
-use Rattle.trees.specs.declared.Form.the-variants.{Good, Bad}
-use Rattle.trees.specs.declared.Walked.{Walked}
-use Rattle.trees.specs.declared.Walked.the-variants.{End, Fault, Out}
+use Rattle.tree_spec.specs.Nodes.{mostNodes, noPlace, countOf, kindAt, bitAt, placeAt}
+use Rattle.tree_spec.specs.Form.{start, side, nodeOk, closed, forked, walkOf, ended, counted, formOf}
+use Rattle.tree_spec.specs.declared.Form.the-variants.{Good, Bad}
+use Rattle.tree_spec.specs.declared.Subtree.{Subtree}
+use Rattle.tree_spec.specs.declared.Subtree.the-variants.{End, Fault, Out}
 use Rattle.tree_form.proofs.Nodes.{leaf-place, test-bit, bit-fits}
 use Rattle.tree_form.proofs.Sides.{side-small}
 
@@ -41,8 +41,8 @@ sized b h =
     record { some = leb-true _ _ (t .1); few = leb-true _ _ (t .2); bytes = eqb-true _ _ (t .3) }
 
 -- a walk of a node, from the node's tests and the walk of its zero side
-abbrev step : Bool → Bool → Bool → ℕ → ℕ → Walked → (ℕ → Walked) → Walked
-step here ok last i place low more = cond here (cond ok (cond last (End (suc i) nowhere) (forked i place low more)) (Fault i)) Out
+abbrev step : Bool → Bool → Bool → ℕ → ℕ → Subtree → (ℕ → Subtree) → Subtree
+step here ok last i place low more = cond here (cond ok (cond last (End (suc i) noPlace) (forked i place low more)) (Fault i)) Out
 
 module _ (first n : ℕ) (b : List ℕ) where
   -- a subtree: the path to it, its first node, and the node behind it
@@ -59,7 +59,7 @@ module _ (first n : ℕ) (b : List ℕ) where
     test : {p : Pattern} {i e s : ℕ} (next low high : ℕ) → i < countOf b → nodeOk first n p b i ≡ true → (kindAt b i ≡ 0 → ⊥)
         → Span (side p (kindAt b i) (bitAt b i) 0) (suc i) next low
         → Span (side p (kindAt b i) (bitAt b i) 1) next e high
-        → s ≡ min (cond (eqb (placeAt b i) next) nowhere i) (min low high)
+        → s ≡ min (cond (eqb (placeAt b i) next) noPlace i) (min low high)
         → Span p i e s
 
   abbrev Spans : ℕ → Type 0
@@ -68,16 +68,16 @@ module _ (first n : ℕ) (b : List ℕ) where
   module _ (deep : ℕ) (shallow : Spans deep) (p : Pattern) (i e s : ℕ) where
     both : i < countOf b → nodeOk first n p b i ≡ true → (kindAt b i ≡ 0 → ⊥)
         → (next low : ℕ) → walkOf first n b deep (side p (kindAt b i) (bitAt b i) 0) (suc i) ≡ End next low
-        → (w : Walked) → walkOf first n b deep (side p (kindAt b i) (bitAt b i) 1) next ≡ w
-        → closed (cond (eqb (placeAt b i) next) nowhere i) low w ≡ End e s → Span p i e s
+        → (w : Subtree) → walkOf first n b deep (side p (kindAt b i) (bitAt b i) 1) next ≡ w
+        → closed (cond (eqb (placeAt b i) next) noPlace i) low w ≡ End e s → Span p i e s
     both here ok f next low z (End f2 high) o h =
         let q : f2 ≡ e = cc in
-        let m : s ≡ min (cond (eqb (placeAt b i) next) nowhere i) (min low high) = cc in
+        let m : s ≡ min (cond (eqb (placeAt b i) next) noPlace i) (min low high) = cc in
         test next low high here ok f (shallow _ _ _ _ z) (rw q at (shallow _ _ _ _ o)) m
     both here ok f next low z (Fault k) o h = no-fault k e s h
     both here ok f next low z Out o h = no-out e s h
 
-    one : (here ok last : Bool) (w : Walked) → ltb i (countOf b) ≡ here → nodeOk first n p b i ≡ ok → eqb (kindAt b i) 0 ≡ last
+    one : (here ok last : Bool) (w : Subtree) → ltb i (countOf b) ≡ here → nodeOk first n p b i ≡ ok → eqb (kindAt b i) 0 ≡ last
         → walkOf first n b deep (side p (kindAt b i) (bitAt b i) 0) (suc i) ≡ w
         → step here ok last i (placeAt b i) w (λ next. walkOf first n b deep (side p (kindAt b i) (bitAt b i) 1) next) ≡ End e s
         → Span p i e s
@@ -109,41 +109,41 @@ module _ (first n : ℕ) (b : List ℕ) where
   pub walk-next : (deep : ℕ) (p : Pattern) (i e s : ℕ) → walkOf first n b deep p i ≡ End e s → i < e
   walk-next deep p i e s h = span-next (span-of deep p i e s h)
 
-  behind : (i next : ℕ) → i < nowhere → (t : Bool) → eqb (placeAt b i) next ≡ t → nowhere ≤ cond t nowhere i → next ≡ placeAt b i
+  behind : (i next : ℕ) → i < noPlace → (t : Bool) → eqb (placeAt b i) next ≡ t → noPlace ≤ cond t noPlace i → next ≡ placeAt b i
   behind i next l true q h = sym (eqb-true _ _ q)
   behind i next l false q h = absurd (omega arith)
 
-  tree-span : countOf b ≤ mostNodes → {p : Pattern} {i e s : ℕ} → Span p i e s → nowhere ≤ s → Tree p i e
+  tree-span : countOf b ≤ mostNodes → {p : Pattern} {i e s : ℕ} → Span p i e s → noPlace ≤ s → Tree p i e
   tree-span few (leaf here ok k q) h = rw q (tip here ok k)
   tree-span few {p} {i} (test next low high here ok f z o q) h =
       let x : next ≡ placeAt b i = behind i next (omega arith) (eqb (placeAt b i) next) refl (omega arith) in
       fork here ok f (rw x at (tree-span few z (omega arith))) (rw x at (tree-span few o (omega arith)))
 
-  good-walk : (w : Walked) → ended (countOf b) w ≡ Good → w ≡ End (countOf b) nowhere
-  good-walk (End next low) h = ends (eqb next (countOf b)) (eqb low nowhere) refl refl h
+  good-walk : (w : Subtree) → ended (countOf b) w ≡ Good → w ≡ End (countOf b) noPlace
+  good-walk (End next low) h = ends (eqb next (countOf b)) (eqb low noPlace) refl refl h
     where
-      ends : (t u : Bool) → eqb next (countOf b) ≡ t → eqb low nowhere ≡ u → cond t (cond u Good (Bad low)) (Bad nowhere) ≡ Good
-          → End next low ≡ End (countOf b) nowhere
-      ends true true p q e = rw (eqb-true next (countOf b) p, eqb-true low nowhere q)
+      ends : (t u : Bool) → eqb next (countOf b) ≡ t → eqb low noPlace ≡ u → cond t (cond u Good (Bad low)) (Bad noPlace) ≡ Good
+          → End next low ≡ End (countOf b) noPlace
+      ends true true p q e = rw (eqb-true next (countOf b) p, eqb-true low noPlace q)
       ends true false p q e = not-good low e
-      ends false u p q e = not-good nowhere e
+      ends false u p q e = not-good noPlace e
   good-walk (Fault k) h = not-good k h
-  good-walk Out h = not-good nowhere h
+  good-walk Out h = not-good noPlace h
 
   pub good-counted : formOf first n b ≡ Good → counted b ≡ true
   unfolding formOf
   good-counted h = go (counted b) refl h
     where
-      go : (t : Bool) → counted b ≡ t → cond t (ended (countOf b) (walkOf first n b (countOf b) start 0)) (Bad nowhere) ≡ Good → counted b ≡ true
+      go : (t : Bool) → counted b ≡ t → cond t (ended (countOf b) (walkOf first n b (countOf b) start 0)) (Bad noPlace) ≡ Good → counted b ≡ true
       go true q e = q
-      go false q e = not-good nowhere e
+      go false q e = not-good noPlace e
 
   pub tree-of : formOf first n b ≡ Good → Tree start 0 (countOf b)
   unfolding formOf
   tree-of h =
       let c = good-counted h in
       let w = good-walk (walkOf first n b (countOf b) start 0) (rw c at h) in
-      tree-span (sized b c .few) (span-of (countOf b) start 0 (countOf b) nowhere w) (omega arith)
+      tree-span (sized b c .few) (span-of (countOf b) start 0 (countOf b) noPlace w) (omega arith)
 
   -- a subtree has a node, and ends inside the tree
   pub tree-next : {p : Pattern} {i e : ℕ} → Tree p i e → i < e
@@ -159,7 +159,7 @@ module _ (first n : ℕ) (b : List ℕ) where
 
   -- what a sound node says, by its kind
   pub leaf-says : (p : Pattern) (i : ℕ) → i < countOf b → nodeOk first n p b i ≡ true → kindAt b i ≡ 0
-      → (placeAt b i ≡ nowhere) ⊎ ((first ≤ placeAt b i) × (placeAt b i < first + n))
+      → (placeAt b i ≡ noPlace) ⊎ ((first ≤ placeAt b i) × (placeAt b i < first + n))
   leaf-says p i here ok k = leaf-place first n p b i ok k
 
   pub test-fresh : (p : Pattern) (i : ℕ) → nodeOk first n p b i ≡ true → (kindAt b i ≡ 0 → ⊥)

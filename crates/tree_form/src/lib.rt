@@ -1,15 +1,15 @@
 // The form of a decision tree, judged in one pass over its nodes.
 use format::Pattern;
-use trees::Form;
-use trees::Walked;
+use tree_spec::Form;
+use tree_spec::Subtree;
 ghost use mathlib.Core.Bool.{cond, not, _&&_};
 ghost use mathlib.Core.Path.{_≡_};
 ghost use Prim.Native.Nat.{ℕ, _+_, _*_, _<_, _≤_, min};
 ghost use lib.Dec.{ltb, eqb};
 ghost use lib.ListN.{length};
 ghost use Rattle.bits.specs.Bits.{isSet};
-ghost use Rattle.trees.specs.Nodes.{nowhere, countOf, kindAt, bitAt, placeAt};
-ghost use Rattle.trees.specs.Form.{side, leafOk, testOk, nodeOk, closed, walkOf, ended, counted, formOf};
+ghost use Rattle.tree_spec.specs.Nodes.{noPlace, countOf, kindAt, bitAt, placeAt};
+ghost use Rattle.tree_spec.specs.Form.{side, leafOk, testOk, nodeOk, closed, walkOf, ended, counted, formOf};
 
 // Node i's three parts.
 pub fn kind(tree: &[u8], i: usize) -> u8
@@ -72,7 +72,8 @@ fn leaf_ok(tree: &[u8], first: usize, n: usize, i: usize) -> bool
     ensures { λ r. ⌜ r ≡ leafOk first n (now (tree .entry)) i ⌝ }
 {
     let place = place(tree, i);
-    (bit(tree, i) == 0) & (((first <= place) & (place < first + n)) | (place == trees::NOWHERE))
+    (bit(tree, i) == 0)
+        & (((first <= place) & (place < first + n)) | (place == tree_spec::NO_PLACE))
 }
 
 fn test_ok(tree: &[u8], p: Pattern, i: usize) -> bool
@@ -111,54 +112,58 @@ fn smaller(a: usize, b: usize) -> usize
 
 // Node i, where its one side stands elsewhere than behind its zero side.
 fn own_side(place: usize, next: usize, i: usize) -> usize
-    ensures { λ r. ⌜ r ≡ cond (eqb place next) nowhere i ⌝ }
+    ensures { λ r. ⌜ r ≡ cond (eqb place next) noPlace i ⌝ }
 {
-    if place == next { trees::NOWHERE } else { i }
+    if place == next {
+        tree_spec::NO_PLACE
+    } else {
+        i
+    }
 }
 
 // A test's subtree, from its one side.
-fn close(own: usize, low: usize, one: Walked) -> Walked
+fn close(own: usize, low: usize, one: Subtree) -> Subtree
     ensures { λ r. ⌜ r ≡ closed own low one ⌝ }
 {
     match one {
-        Walked::End { next, side } => {
+        Subtree::End { next, side } => {
             let least = smaller(own, smaller(low, side));
-            Walked::End { next, side: least }
+            Subtree::End { next, side: least }
         }
-        Walked::Fault(k) => Walked::Fault(k),
-        Walked::Out => Walked::Out,
+        Subtree::Fault(k) => Subtree::Fault(k),
+        Subtree::Out => Subtree::Out,
     }
 }
 
 // The subtree from node i on. It goes no deeper than 96 tests, since a bit that is tested twice is a fault.
-fn walk(tree: &[u8], first: usize, n: usize, count: usize, p: Pattern, i: usize) -> Walked
+fn walk(tree: &[u8], first: usize, n: usize, count: usize, p: Pattern, i: usize) -> Subtree
     requires { ⌜ (count ≡ countOf (now tree)) × (2 + 4 * count ≤ length (now tree)) × (count ≤ 4095) ⌝ }
     requires { ⌜ first + n ≤ 512 ⌝ }
     ensures { λ r. ⌜ ((deep : ℕ) → countOf (now (tree .entry)) ≤ i + deep → r ≡ walkOf first n (now (tree .entry)) deep p i) ⌝ }
 {
     if count <= i {
-        return Walked::Out;
+        return Subtree::Out;
     }
     if node_ok(tree, first, n, p, i) {
         let kind = kind(tree, i);
         if kind == 0 {
-            return Walked::End {
+            return Subtree::End {
                 next: i + 1,
-                side: trees::NOWHERE,
+                side: tree_spec::NO_PLACE,
             };
         }
         let bit = bit(tree, i);
         let zero = walk(tree, first, n, count, side_of(p, kind, bit, 0), i + 1);
         match zero {
-            Walked::End { next, side } => {
+            Subtree::End { next, side } => {
                 let one = walk(tree, first, n, count, side_of(p, kind, bit, 1), next);
                 close(own_side(place(tree, i), next, i), side, one)
             }
-            Walked::Fault(k) => Walked::Fault(k),
-            Walked::Out => Walked::Out,
+            Subtree::Fault(k) => Subtree::Fault(k),
+            Subtree::Out => Subtree::Out,
         }
     } else {
-        Walked::Fault(i)
+        Subtree::Fault(i)
     }
 }
 
@@ -170,26 +175,26 @@ fn count_ok(tree: &[u8]) -> bool
         return false;
     }
     let count = format::word(tree, 0) as usize;
-    (1 <= count) & (count <= trees::MOST_NODES) & (tree.len() == 2 + 4 * count)
+    (1 <= count) & (count <= tree_spec::MOST_NODES) & (tree.len() == 2 + 4 * count)
 }
 
-fn end(count: usize, walked: Walked) -> Form
+fn end(count: usize, walked: Subtree) -> Form
     ensures { λ r. ⌜ r ≡ ended count walked ⌝ }
 {
     match walked {
-        Walked::End { next, side } => {
+        Subtree::End { next, side } => {
             if next == count {
-                if side == trees::NOWHERE {
+                if side == tree_spec::NO_PLACE {
                     Form::Good
                 } else {
                     Form::Bad(side)
                 }
             } else {
-                Form::Bad(trees::NOWHERE)
+                Form::Bad(tree_spec::NO_PLACE)
             }
         }
-        Walked::Fault(k) => Form::Bad(k),
-        Walked::Out => Form::Bad(trees::NOWHERE),
+        Subtree::Fault(k) => Form::Bad(k),
+        Subtree::Out => Form::Bad(tree_spec::NO_PLACE),
     }
 }
 
@@ -208,6 +213,6 @@ pub fn form(tree: &[u8], first: usize, n: usize) -> Form
         };
         end(count, walk(tree, first, n, count, start, 0))
     } else {
-        Form::Bad(trees::NOWHERE)
+        Form::Bad(tree_spec::NO_PLACE)
     }
 }

@@ -10,12 +10,12 @@ use lib.ListN.{length, getD}
 use Rattle.lists.proofs.Bools.{and-no}
 use Rattle.bits.specs.Bits.{bit}
 use Rattle.bits.proofs.Digits.{low-bit, high-bit}
-use Rattle.choice.specs.Choosing.{short}
+use Rattle.choosing_spec.specs.Choosing.{short}
 use Rattle.format.specs.declared.Pattern.{Pattern}
 use Rattle.patterns.specs.Matching.{byteBit, matches, agrees, masksMissing, cutOff}
-use Rattle.choosing_facts.proofs.Fits.{Asks, InBytes, InWord, Holds, Fits, Missing, missing-at, matches-fits, fits-matches}
-use Rattle.trees.specs.Judged.{bytesOf}
-use Rattle.trees.specs.Reach.{Input}
+use Rattle.choosing_theorems.proofs.Fits.{Asks, InBytes, InWord, Holds, Fits, Missing, missing-at, matches-fits, fits-matches}
+use Rattle.tree_spec.specs.Verdicts.{bytesOf}
+use Rattle.tree_spec.specs.Reach.{Input}
 
 pub bytes-length : (n w : ℕ) → length (bytesOf n w) ≡ n
 unfolding bytesOf

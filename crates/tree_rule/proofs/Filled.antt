@@ -10,10 +10,10 @@ use Rattle.lists.proofs.Below.{all-at}
 use Rattle.lists.proofs.Bools.{and-left, and-right}
 use Rattle.bits.specs.Bits.{bit, isSet}
 use Rattle.bits.proofs.Digits.{bit-small, either, bit-and, bit-or, bit-xor}
-use Rattle.choice.specs.Sound.{Sound}
+use Rattle.choosing_spec.specs.ValidPattern.{ValidPattern}
 use Rattle.format.specs.declared.Pattern.{Pattern}
 use Rattle.patterns.specs.Relations.{inside, meetBits, overlap}
-use Rattle.choosing_facts.proofs.Fits.{InWord, InMask, Holds, Fits, fits-inside}
+use Rattle.choosing_theorems.proofs.Fits.{InWord, InMask, Holds, Fits, fits-inside}
 use Rattle.tree_rule.specs.Rule.{filled, turned, exampleWord, exampleContext}
 
 filled-small : (n pm pv m v : ℕ) → pm < 2 ^ n → pv < 2 ^ n → m < 2 ^ n → v < 2 ^ n → filled pm pv m v < 2 ^ n
@@ -92,7 +92,7 @@ path-fits own p q =
       context = own-holds 32 (p .contextmask) (p .contextvalue) (q .contextmask) (turned own (q .contextmask) (q .contextvalue));
     }
 
-pub context-small : (own : Bool) (p q : Pattern) → Sound p → Sound q → exampleContext own p q < 2 ^ 32
+pub context-small : (own : Bool) (p q : Pattern) → ValidPattern p → ValidPattern q → exampleContext own p q < 2 ^ 32
 context-small own p q a b =
     filled-small 32 (p .contextmask) (p .contextvalue) (q .contextmask) (turned own (q .contextmask) (q .contextvalue))
     (a .contextmask) (a .contextvalue) (b .contextmask) (go own)

@@ -9,26 +9,26 @@ use native.Mathlib.Omega.{arith}
 use borrow.Author.Tests.{eq-eqb, ne-eqb, eqb-true, eqb-false, not-true, not-false}
 use lib.Dec.{eqb}
 use Rattle.lists.proofs.Bools.{and-left, and-right, and-yes}
-use Rattle.choice.specs.Choosing.{short, matching, choose}
-use Rattle.choice.specs.Sound.{Sound}
+use Rattle.choosing_spec.specs.Choosing.{short, matching, choose}
+use Rattle.choosing_spec.specs.ValidPattern.{ValidPattern}
 use Rattle.format.specs.declared.Pattern.{Pattern}
 use Rattle.patterns.specs.Matching.{matches}
 use Rattle.patterns.specs.Relations.{inside, overlap}
-use Rattle.choosing_facts.specs.Taken.{Strict}
-use Rattle.choosing_facts.proofs.Fits.{InBytes, InWord, matches-fits, fits-matches, fits-up}
-use Rattle.choosing_facts.proofs.None.{none-at, none-of}
-use Rattle.choosing_facts.proofs.Overlap.{both-overlap}
-use Rattle.choosing_facts.proofs.Taken.{Answer, cut, none, one, torn, answer, choose-taken, no-match-back}
-use Rattle.trees.specs.Judged.{bytesOf}
-use Rattle.trees.specs.Nodes.{nowhere}
-use Rattle.trees.specs.Reach.{Input, right}
+use Rattle.choosing_theorems.specs.Taken.{Strict}
+use Rattle.choosing_theorems.proofs.Fits.{InBytes, InWord, matches-fits, fits-matches, fits-up}
+use Rattle.choosing_theorems.proofs.None.{none-at, none-of}
+use Rattle.choosing_theorems.proofs.Overlap.{both-overlap}
+use Rattle.choosing_theorems.proofs.Taken.{Answer, cut, none, one, torn, answer, choose-taken, no-match-back}
+use Rattle.tree_spec.specs.Verdicts.{bytesOf}
+use Rattle.tree_spec.specs.Nodes.{noPlace}
+use Rattle.tree_spec.specs.Reach.{Input, right}
 use Rattle.tree_rule.specs.Rule.{Says, refutes, showsWrong, exampleWord, exampleContext}
 use Rattle.tree_rule.proofs.Bytes.{word-matches, matches-word, bytes-input, never-short}
 use Rattle.tree_rule.proofs.Filled.{path-fits, context-small, overlap-fits, turned-inside}
 
 -- what it says of the table that a leaf is right
 data Right (first : ℕ) (at : ℕ → Pattern) (n : ℕ) (s : List ℕ) (c v : ℕ) : Type 0 where
-  empty : v ≡ nowhere → ((j : ℕ) → j < n → matching at n s c j ≡ false) → Right first at n s c v
+  empty : v ≡ noPlace → ((j : ℕ) → j < n → matching at n s c j ≡ false) → Right first at n s c v
   names : (t : ℕ) → v ≡ first + t → Strict at n s c t → Right first at n s c v
 
 right-says : (first : ℕ) (at : ℕ → Pattern) (n : ℕ) (s : List ℕ) (c v : ℕ)
@@ -37,7 +37,7 @@ right-says first at n s c v e = go (answer at n s c)
   where
     go : Answer at n s c (choose at n s c) → Right first at n s c v
     go (cut p q) = absurd (false≢true (rw q at e))
-    go (none p m q) = empty (eqb-true v nowhere (rw q at e)) (none-at (matching at n s c) n m)
+    go (none p m q) = empty (eqb-true v noPlace (rw q at e)) (none-at (matching at n s c) n m)
     go (one p t r q) = names t (eqb-true v (first + t) (rw q at e)) r
     go (torn p m f q) = absurd (false≢true (rw q at e))
 
@@ -48,23 +48,23 @@ pub record Example (first : ℕ) (at : ℕ → Pattern) (n : ℕ) (p : Pattern) 
   pub wrong : right first v (choose at n (bytesOf 8 w) c) ≡ false
 
 -- a table of n patterns, and a leaf which says v at the end of path p
-module _ (first : ℕ) (at : ℕ → Pattern) (n : ℕ) (sound : (j : ℕ) → j < n → Sound (at j)) (low : first + n ≤ 512)
-    (p : Pattern) (path : Sound p) (v : ℕ) where
+module _ (first : ℕ) (at : ℕ → Pattern) (n : ℕ) (sound : (j : ℕ) → j < n → ValidPattern (at j)) (low : first + n ≤ 512)
+    (p : Pattern) (path : ValidPattern p) (v : ℕ) where
   -- the rule's three cases
   own-case : (j : ℕ) → first + j ≡ v → showsWrong first at p v j ≡ not (inside p (at j))
   unfolding showsWrong refutes
   own-case j e = rw (eq-eqb (first + j) v e)
 
-  none-case : (j : ℕ) → j < n → v ≡ nowhere → showsWrong first at p v j ≡ overlap p (at j)
+  none-case : (j : ℕ) → j < n → v ≡ noPlace → showsWrong first at p v j ≡ overlap p (at j)
   unfolding showsWrong refutes
-  none-case j h e = rw (ne-eqb (first + j) v (λ q. omega arith), eq-eqb v nowhere e) (and-yes (overlap p (at j)))
+  none-case j h e = rw (ne-eqb (first + j) v (λ q. omega arith), eq-eqb v noPlace e) (and-yes (overlap p (at j)))
 
   named-case : (j t : ℕ) → v ≡ first + t → t < n → (j ≡ t → ⊥)
       → showsWrong first at p v j ≡ (overlap p (at j) && not (inside (at t) (at j) && not (inside (at j) (at t))))
   unfolding showsWrong refutes
   named-case j t e h d =
       let z : v - first ≡ t = omega arith in
-      rw (ne-eqb (first + j) v (λ q. d (omega arith)), ne-eqb v nowhere (λ q. omega arith), z)
+      rw (ne-eqb (first + j) v (λ q. d (omega arith)), ne-eqb v noPlace (λ q. omega arith), z)
 
   -- no record shows it wrong
   module _ (clear : (j : ℕ) → j < n → showsWrong first at p v j ≡ false) (s : List ℕ) (c : ℕ) (input : Input s c)
@@ -79,8 +79,8 @@ module _ (first : ℕ) (at : ℕ → Pattern) (n : ℕ) (sound : (j : ℕ) → j
         both-overlap p (at j) path (sound j h) (InBytes s) (InWord c) (λ k x y a b. sym (a .1) ∙ b .1) (λ k x y a b. sym a ∙ b)
         (matches-fits p s c on) (matches-fits (at j) s c e)
 
-    none-right : v ≡ nowhere → right first v (choose at n s c) ≡ true
-    none-right e = rw (no-match-back at n s c (λ j h. (go j h (matching at n s c j) refl, whole j h))) (eq-eqb v nowhere e)
+    none-right : v ≡ noPlace → right first v (choose at n s c) ≡ true
+    none-right e = rw (no-match-back at n s c (λ j h. (go j h (matching at n s c j) refl, whole j h))) (eq-eqb v noPlace e)
       where
         go : (j : ℕ) → j < n → (b : Bool) → matching at n s c j ≡ b → b ≡ false
         go j h true q = sym (overlaps j h q) ∙ (sym (none-case j h e) ∙ clear j h)

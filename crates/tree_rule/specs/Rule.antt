@@ -7,11 +7,11 @@ use lib.Bits.{bitAnd, bitOr, bitXor}
 use lib.Dec.{eqb}
 use Rattle.format.specs.declared.Pattern.{Pattern}
 use Rattle.patterns.specs.Relations.{inside, overlap}
-use Rattle.trees.specs.Nodes.{nowhere}
+use Rattle.tree_spec.specs.Nodes.{noPlace}
 
 -- what a leaf says, for a table of n records whose first is constructor `first`: none, or a constructor of the table
 abbrev pub Says : ℕ → ℕ → ℕ → Type 0
-Says first n v = (v ≡ nowhere) ⊎ ((first ≤ v) × (v < first + n))
+Says first n v = (v ≡ noPlace) ⊎ ((first ≤ v) × (v < first + n))
 
 -- A leaf that says none is wrong where some pattern of the table overlaps p. A leaf that names a constructor is wrong where p does
 -- not lie inside its pattern, or where another pattern of the table overlaps p and the named one does not lie inside that or equals
@@ -22,7 +22,7 @@ refutes own none p named q =
 
 -- record j of the table whose first is constructor `first` shows that a leaf which says v is wrong
 unfoldable pub showsWrong : ℕ → (ℕ → Pattern) → Pattern → ℕ → ℕ → Bool
-showsWrong first at p v j = refutes (eqb (first + j) v) (eqb v nowhere) p (at (v - first)) (at j)
+showsWrong first at p v j = refutes (eqb (first + j) v) (eqb v noPlace) p (at (v - first)) (at j)
 
 -- a path's values at its masked bits, and v's at the other bits of m
 abbrev pub filled : ℕ → ℕ → ℕ → ℕ → ℕ

@@ -13,8 +13,8 @@ use Rattle.format.specs.Description.{noField, noConstructor, noOperand}
 use Rattle.format.specs.Tables.{rootOf}
 use Rattle.format.specs.declared.Constructor.{Constructor}
 use Rattle.format.specs.declared.Operand.{Operand}
-use Rattle.choice.specs.declared.Choice.{Choice}
-use Rattle.choice.specs.declared.Choice.the-variants as choice
+use Rattle.choosing_spec.specs.declared.Choice.{Choice}
+use Rattle.choosing_spec.specs.declared.Choice.the-variants as choice
 use Rattle.decoding_spec.specs.State.{Setting, starting, counted}
 use Rattle.decoding_spec.specs.Tree.{Node, Nodes, none, more}
 use Rattle.decoding_spec.specs.Walk.{Result, done, refused, andThen, choiceIn, startOf, closing, fieldFrom, operandFrom, operandsFrom, constructorFrom, taking, tableFrom, walkFrom, Walker, rejectEmpty, instructionFrom}
@@ -60,7 +60,7 @@ module _ (g : Setting) (first : ℕ) (s : List ℕ) (at count : ℕ) where
   all depth st = operandsFrom g (walkFrom g depth) first s at count 0 (replicate (operandsEach + 1) 0) 0 st
 
   -- what is left to do comes to what the whole comes to; and bounds
-  pub record Turn (st₀ : State) (rows₀ rows : List ℤ) (ends : List ℕ) (far : ℕ) (st : State) (o : ℕ) : Type 0 where
+  pub record LoopState (st₀ : State) (rows₀ rows : List ℤ) (ends : List ℕ) (far : ℕ) (st : State) (o : ℕ) : Type 0 where
     pub rest : (depth : ℕ) → mostRows < st₀ .used + depth → (w : Walked) (new : List ℤ)
         → WalksTo sizedOfAll (left depth o ends far st) w at (st .used) rows new → WalksTo sizedOfAll (all depth st₀) w at (st₀ .used) rows₀ new
     pub most : count ≤ operandsEach
@@ -73,7 +73,7 @@ module _ (g : Setting) (first : ℕ) (s : List ℕ) (at count : ℕ) where
     pub kept : length rows ≡ length rows₀
 
   pub first-turn : (st : State) (rows : List ℤ) → count ≤ operandsEach → st .used ≤ mostRows → at ≤ longest
-      → Turn st rows rows (replicate (operandsEach + 1) 0) 0 st 0
+      → LoopState st rows rows (replicate (operandsEach + 1) 0) 0 st 0
   first-turn st rows m u a =
       record {
         rest = λ depth k w new h. let z : count - 0 ≡ count = omega arith in rw z at h;
@@ -101,7 +101,7 @@ module _ (g : Setting) (first : ℕ) (s : List ℕ) (at count : ℕ) where
       let z : count - o ≡ suc (count - (o + 1)) = omega arith in
       rw (z, ← e, ← b)
 
-  module _ (st₀ : State) (rows₀ rows rows′ : List ℤ) (ends : List ℕ) (far : ℕ) (st : State) (o : ℕ) (turn : Turn st₀ rows₀ rows ends far st o)
+  module _ (st₀ : State) (rows₀ rows rows′ : List ℤ) (ends : List ℕ) (far : ℕ) (st : State) (o : ℕ) (turn : LoopState st₀ rows₀ rows ends far st o)
       (x : Operand) (start : ℕ) (walked : Walked) (h : o < count) (e : x ≡ getD (g .description .operands) (first + o) noOperand)
       (b : start ≡ startOf ends x)
       (walks : Walks sizedOf (λ depth. operandFrom g (walkFrom g depth) x s at start st) walked (at + start) (st .used) (st .used) rows rows′) where
@@ -113,7 +113,7 @@ module _ (g : Setting) (first : ℕ) (s : List ℕ) (at count : ℕ) where
               turn .rest depth k (Refused r) rows′ (refuses _ _ _ _ _ _ _ (step depth o ends far st x start h e b ∙ rw z));
         }
 
-    pub next-turn : (st′ : State) (l : ℕ) → walked ≡ Done st′ l → length rows′ ≡ length rows → Turn st₀ rows₀ rows′ (set ends (o + 1) (start + l)) (max far (start + l)) st′ (o + 1)
+    pub next-turn : (st′ : State) (l : ℕ) → walked ≡ Done st′ l → length rows′ ≡ length rows → LoopState st₀ rows₀ rows′ (set ends (o + 1) (start + l)) (max far (start + l)) st′ (o + 1)
     next-turn st′ l q kept =
         let bounds : (st .used ≤ st′ .used) × (st′ .used ≤ mostRows) × (at + start + l ≤ longest) =
         rw q at (within sizedOf (at + start) (st .used) rows rows′ _ walked (st .used) walks) in
@@ -145,7 +145,7 @@ module _ (g : Setting) (first : ℕ) (s : List ℕ) (at count : ℕ) where
         go k (yes p) m = rw (p, getD-set-same ends (o + 1) (start + l) 0 (omega (arith, turn .most, turn .wide))) (omega arith)
         go k (no p) m = rw (getD-set-other ends (o + 1) k (start + l) 0 p) (turn .nears k)
 
-  pub last-turn : (st₀ : State) (rows₀ rows : List ℤ) (ends : List ℕ) (far : ℕ) (st : State) (o : ℕ) → Turn st₀ rows₀ rows ends far st o → count ≤ o
+  pub last-turn : (st₀ : State) (rows₀ rows : List ℤ) (ends : List ℕ) (far : ℕ) (st : State) (o : ℕ) → LoopState st₀ rows₀ rows ends far st o → count ≤ o
       → Walks sizedOfAll (λ depth. all depth st₀) (Done st far) at (st₀ .used) (st₀ .used) rows₀ rows
   unfolding operandsFrom sizedOfAll
   last-turn st₀ rows₀ rows ends far st o turn h =

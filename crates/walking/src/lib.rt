@@ -1,5 +1,5 @@
 // The walk over an instruction: from the root to its operands, each inner table in turn.
-use choice::Choice;
+use choosing_spec::Choice;
 use decoding_spec::Refusal;
 use decoding_spec::State;
 use fields::Look;

@@ -6,7 +6,7 @@ use Rattle.acceptance.proofs.accept.Statement.{statement}
 use Rattle.acceptance.proofs.accept.Tie as tie
 use Rattle.acceptance.proofs.accept.Reads as reads
 use Rattle.acceptance.proofs.accept.Lts as lts
-use Rattle.description.proofs.check.Reads as check-reads
+use Rattle.validation.proofs.check.Reads as check-reads
 
 check-requires : tie.Need-check-requires
 check-requires c κs = search needs

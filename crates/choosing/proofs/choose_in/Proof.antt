@@ -1,5 +1,5 @@
 use Rattle.choosing.proofs.Settling.{rows-small, cut-short, settled}
-use Rattle.choosing.specs.Table.{patternFrom}
+use Rattle.choosing_spec.specs.Table.{patternFrom}
 use Rattle.format.specs.Description.{description}
 use native.Mathlib.Omega.{arith}
 use borrow.Author.Needs.{needs}

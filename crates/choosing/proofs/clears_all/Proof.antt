@@ -1,6 +1,6 @@
 use Rattle.choosing.proofs.Keeping.{clears-is}
 use Rattle.choosing.specs.Scan.{clears, wordMatch}
-use Rattle.choosing.specs.Table.{patternFrom}
+use Rattle.choosing_spec.specs.Table.{patternFrom}
 use Rattle.format.specs.declared.Pattern.{Pattern}
 use Rattle.format.specs.Description.{description}
 use Rattle.lists.proofs.Below.{all-none, all-more, all-stop}

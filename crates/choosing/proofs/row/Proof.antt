@@ -1,4 +1,4 @@
-use Rattle.choosing.specs.Table.{patternFrom}
+use Rattle.choosing_spec.specs.Table.{patternFrom}
 use borrow.Author.Needs.{needs}
 use Rattle.choosing.proofs.row.Statement.{statement}
 use Rattle.choosing.proofs.row.Tie as tie

@@ -1,8 +1,8 @@
 use Rattle.format.specs.declared.Pattern.{Pattern}
 use Rattle.choosing.proofs.Keeping.{is-match, is-short, is-none}
-use Rattle.choosing.proofs.Keeping.{kept-none, kept-skip, kept-met, none-more}
-use Rattle.choosing.specs.Scan.{wordShort, wordMatch, Kept}
-use Rattle.choosing.specs.Table.{patternFrom}
+use Rattle.choosing.proofs.Keeping.{kept-none, kept-skip, kept-withMatch, none-more}
+use Rattle.choosing.specs.Scan.{wordShort, wordMatch, ScanState}
+use Rattle.choosing_spec.specs.Table.{patternFrom}
 use Rattle.format.specs.Description.{description}
 use Rattle.lists.proofs.Below.{any-none, any-at}
 use Rattle.lists.specs.Below.{anyBelow}
@@ -15,7 +15,7 @@ use Rattle.choosing.proofs.scan.Statement.{statement}
 use Rattle.choosing.proofs.scan.Tie as tie
 use Rattle.choosing.proofs.scan.Reads as reads
 use Rattle.choosing.proofs.scan.Lts as lts
-use Rattle.choosing.proofs.meet.Reads as meet-reads
+use Rattle.choosing.proofs.with_match.Reads as with-match-reads
 use Rattle.choosing.proofs.row.Reads as row-reads
 use Rattle.patterns.proofs.agrees.Reads as agrees-reads
 use Rattle.patterns.proofs.whole.Reads as whole-reads
@@ -24,7 +24,7 @@ abbrev Inv-loop : tie.InvT-loop
 Inv-loop desc layout table input best₀ next₀ best next =
     (next ≤ table .count)
     × (anyBelow next (wordShort (patternFrom (description desc layout) (table .first)) input) ≡ false)
-    × Kept (patternFrom (description desc layout) (table .first)) (wordMatch (patternFrom (description desc layout) (table .first)) input) (table .count) next best
+    × ScanState (patternFrom (description desc layout) (table .first)) (wordMatch (patternFrom (description desc layout) (table .first)) input) (table .count) next best
 
 abbrev μ-loop : tie.MeasureT-loop
 μ-loop desc layout table input best₀ next₀ best next = table .count - next
@@ -48,8 +48,8 @@ agrees-requires c κs = search needs
 whole-requires : tie.Need-whole-requires Inv-loop μ-loop
 whole-requires c κs = search needs
 
-meet-requires : tie.Need-meet-requires Inv-loop μ-loop
-meet-requires c κs =
+with-match-requires : tie.Need-with-match-requires Inv-loop μ-loop
+with-match-requires c κs =
     let k = c .before .before .before .before .before .before .before .loop .inv .2 in
     (c .before .before .before .before .before .before .before .before .before .pre .0, (λ f. omega (arith, k .best f .0), c .before .before .before .before .row .ensures))
 
@@ -62,7 +62,7 @@ loop-again c =
     let t = is-match (rows (c .before .before .before .before .before .before .before .before .before .before)) (c .before .before .before .before .before .before .before .before .before .before .args .input) (c .before .before .before .before .before .before .before .before .loop .next) (c .before .before .before .before .before .row .result) (c .before .before .before .before .before .row .ensures) (sym (c .before .before .before .before .agrees .ensures) ∙ c .before .before .before .if2 .taken) (sym (c .before .before .whole .ensures) ∙ c .before .if3 .taken) in (
       omega arith,
       none-more _ (c .before .before .before .before .before .before .before .before .loop .next) (inv .1) (t .0),
-      rw (c .meet .ensures) (kept-met _ _ _ (c .before .before .before .before .before .before .before .before .loop .next) (c .before .before .before .before .before .before .before .before .loop .best) (t .1) (inv .2) (omega arith)),
+      rw (c .with-match .ensures) (kept-withMatch _ _ _ (c .before .before .before .before .before .before .before .before .loop .next) (c .before .before .before .before .before .before .before .before .loop .best) (t .1) (inv .2) (omega arith)),
     )
 
 returns : tie.Need-returns Inv-loop μ-loop
@@ -98,7 +98,7 @@ scan-spec =
     row-requires
     agrees-requires
     whole-requires
-    meet-requires
+    with-match-requires
     loop-less
     loop-again
     returns

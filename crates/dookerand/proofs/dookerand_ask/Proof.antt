@@ -5,7 +5,7 @@ use Rattle.dookerand.proofs.dookerand_ask.Statement.{statement}
 use Rattle.dookerand.proofs.dookerand_ask.Tie as tie
 use Rattle.dookerand.proofs.dookerand_ask.Reads as reads
 use Rattle.dookerand.proofs.dookerand_ask.Lts as lts
-use Rattle.asking.proofs.ask.Reads as ask-reads
+use Rattle.table_query.proofs.ask.Reads as ask-reads
 use Rattle.dookerand.proofs.reject.Reads as reject-reads
 
 ask-requires : tie.Need-ask-requires

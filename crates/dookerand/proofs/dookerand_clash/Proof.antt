@@ -5,7 +5,7 @@ use Rattle.dookerand.proofs.dookerand_clash.Statement.{statement}
 use Rattle.dookerand.proofs.dookerand_clash.Tie as tie
 use Rattle.dookerand.proofs.dookerand_clash.Reads as reads
 use Rattle.dookerand.proofs.dookerand_clash.Lts as lts
-use Rattle.clashing.proofs.clash.Reads as clash-reads
+use Rattle.clash_check.proofs.clash.Reads as clash-reads
 
 clash-requires : tie.Need-clash-requires
 clash-requires c κs = search needs

@@ -7,7 +7,7 @@ use Rattle.dookerand.proofs.dookerand_sweep.Reads as reads
 use Rattle.dookerand.proofs.dookerand_sweep.Lts as lts
 use Rattle.dookerand.proofs.end_number.Reads as end-number-reads
 use Rattle.dookerand.proofs.reject.Reads as reject-reads
-use Rattle.sweeping.proofs.sweep.Reads as sweep-reads
+use Rattle.sweep.proofs.sweep.Reads as sweep-reads
 
 sweep-requires : tie.Need-sweep-requires
 sweep-requires c κs = search needs

@@ -9,23 +9,18 @@ use Rattle.fields.proofs.byte.Reads as reads
 use Rattle.fields.proofs.byte.Lts as lts
 use Rattle.fields.proofs.wide.Reads as wide-reads
 
--- src/lib.rt:52:9
 sub-k : tie.Need-sub-k
 sub-k c = search needs
 
--- src/lib.rt:52:9
 sub-k-2 : tie.Need-sub-k-2
 sub-k-2 c = search needs
 
--- src/lib.rt:54:10
 shared-slice-read-wide : tie.Need-shared-slice-read-wide
 shared-slice-read-wide c = ⊎-elim (λ w. omega arith) (λ w. omega arith) (c .before .before .if1 .came)
 
--- src/lib.rt:54:5
 wide-requires : tie.Need-wide-requires
 wide-requires c κs = search needs
 
--- src/lib.rt:45:1
 returns : tie.Need-returns
 returns c =
     let s = c .before .before .before .before .before .before in

@@ -6,19 +6,15 @@ use Rattle.fields.proofs.cut.Tie as tie
 use Rattle.fields.proofs.cut.Reads as reads
 use Rattle.fields.proofs.cut.Lts as lts
 
--- src/lib.rt:82:6
 shr-result : tie.Need-shr-result
 shr-result c = search needs
 
--- src/lib.rt:82:23
 shl-result : tie.Need-shl-result
 shl-result c = search needs
 
--- src/lib.rt:82:5
 rem-result : tie.Need-rem-result
 rem-result c = rw (one-shifted (c .args .bits) (c .pre .1)) (pow-pos (c .args .bits))
 
--- src/lib.rt:78:1
 returns : tie.Need-returns
 returns c = rw (one-shifted (c .args .bits) (c .pre .1))
 

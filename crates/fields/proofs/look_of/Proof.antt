@@ -5,32 +5,26 @@ use Rattle.fields.proofs.look_of.Tie as tie
 use Rattle.fields.proofs.look_of.Reads as reads
 use Rattle.fields.proofs.look_of.Lts as lts
 
--- src/lib.rt:16:1
 returns : tie.Need-returns
 unfolding lookOf
 returns c = rw (c .match .keys1)
 
--- src/lib.rt:16:1
 returns-2 : tie.Need-returns-2
 unfolding lookOf
 returns-2 c = rw (c .match .keys2)
 
--- src/lib.rt:16:1
 returns-3 : tie.Need-returns-3
 unfolding lookOf
 returns-3 c = rw (c .match .keys3)
 
--- src/lib.rt:16:1
 returns-4 : tie.Need-returns-4
 unfolding lookOf
 returns-4 c = rw (c .match .keys4)
 
--- src/lib.rt:16:1
 returns-5 : tie.Need-returns-5
 unfolding lookOf
 returns-5 c = rw (c .match .keys5)
 
--- src/lib.rt:16:1
 returns-6 : tie.Need-returns-6
 unfolding lookOf
 returns-6 c =

@@ -16,18 +16,15 @@ Inv-loop field code v₀ j₀ v j = (j ≤ field .width) × (v ≡ numberFrom (t
 abbrev μ-loop : tie.MeasureT-loop
 μ-loop field code v₀ j₀ v j = j
 
--- src/lib.rt:70:5
 loop-holds : tie.Need-loop-holds Inv-loop μ-loop
 unfolding numberFrom
 loop-holds c =
     let z : c .before .args .field .width - c .before .args .field .width ≡ 0 = omega arith in
     (omega arith, rw z)
 
--- src/lib.rt:71:9
 sub-j : tie.Need-sub-j Inv-loop μ-loop
 sub-j c = omega arith
 
--- src/lib.rt:72:13
 byte-requires : tie.Need-byte-requires Inv-loop μ-loop
 byte-requires c κs = omega arith
 
@@ -38,19 +35,15 @@ v-small c =
     (number-narrow (tokenByte (s .args .field) (s .args .code .now))
     (token-byte (s .args .field) (s .args .code .now) (λ i. omega (arith, c .before .before .before .shared-slice-known .given i))) _ _ (omega arith))
 
--- src/lib.rt:72:36
 mul-v : tie.Need-mul-v Inv-loop μ-loop
 mul-v c = omega (arith, v-small c)
 
--- src/lib.rt:72:13
 add-v : tie.Need-add-v Inv-loop μ-loop
 add-v c = omega (arith, v-small c)
 
--- src/lib.rt:70:5
 loop-less : tie.Need-loop-less Inv-loop μ-loop
 loop-less c = omega arith
 
--- src/lib.rt:70:5
 loop-again : tie.Need-loop-again Inv-loop μ-loop
 loop-again c =
     let l = c .before .before .loop in
@@ -60,7 +53,6 @@ loop-again c =
           (number-more (tokenByte (s .args .field) (s .args .code .now)) (l .j) (s .args .field .width) (omega arith) (l .inv .0)),
     )
 
--- src/lib.rt:64:1
 returns : tie.Need-returns Inv-loop μ-loop
 unfolding tokenOf
 returns c =

@@ -9,23 +9,18 @@ use Rattle.fields.proofs.value.Lts as lts
 use Rattle.fields.proofs.cut.Reads as cut-reads
 use Rattle.fields.proofs.token.Reads as token-reads
 
--- src/lib.rt:91:16
 add-bits : tie.Need-add-bits
 add-bits c = search needs
 
--- src/lib.rt:91:16
 sub-bits : tie.Need-sub-bits
 sub-bits c = search needs
 
--- src/lib.rt:93:20
 token-requires : tie.Need-token-requires
 token-requires c κs = (search needs, c .before .before .before .before .before .pre .1 (c .if1 .taken))
 
--- src/lib.rt:93:9
 cut-requires : tie.Need-cut-requires
 cut-requires c κs = search needs
 
--- src/lib.rt:93:9
 returns : tie.Need-returns
 returns c =
     let s = c .before .before .before .before .before .before .before in
@@ -34,11 +29,9 @@ returns c =
     rw (c .cut .ensures, c .before .token .ensures, ← from-code f code (s .args .context) (c .before .before .if1 .taken))
     (cut-is-value f code (λ i. omega (arith, c .before .before .before .before .before .before .shared-slice-known .given i)) (s .args .context) (s .pre .0))
 
--- src/lib.rt:95:5
 cut-requires-2 : tie.Need-cut-requires-2
 cut-requires-2 c κs = search needs
 
--- src/lib.rt:86:1
 returns-2 : tie.Need-returns-2
 returns-2 c =
     let s = c .before .before .before .before .before .before in

@@ -8,7 +8,7 @@ use lib.ListN.{length}
 use Rattle.format.specs.Description.{Description, description}
 use Rattle.setting.proofs.Laws.{fixed-of, setting-of}
 use Rattle.text.specs.Prints.{described}
-use Rattle.listing_text.proofs.Turns.{Turn, first-turn, room-left, last-turn, place-there, prefix-long, full-turn, count-fits, next-turn, moves, size-fits, lines-fit}
+use Rattle.listing_text.proofs.Turns.{LoopState, first-turn, room-left, last-turn, place-there, prefix-long, full-turn, count-fits, next-turn, moves, size-fits, lines-fit}
 use Rattle.listing_text.proofs.list_in.Statement.{statement}
 use Rattle.listing_text.proofs.list_in.Tie as tie
 use Rattle.listing_text.proofs.list_in.Reads as reads
@@ -18,7 +18,7 @@ use Rattle.printing.proofs.put_bytes.Reads as put-bytes-reads
 use Rattle.setting.proofs.fill.Reads as fill-reads
 
 abbrev Inv-loop : tie.InvT-loop
-Inv-loop desc context code from out₀ fixed₀ at₀ bytes₀ lines₀ out fixed at bytes lines = Turn desc fixed₀ context code out₀ from fixed out at bytes lines
+Inv-loop desc context code from out₀ fixed₀ at₀ bytes₀ lines₀ out fixed at bytes lines = LoopState desc fixed₀ context code out₀ from fixed out at bytes lines
 
 abbrev μ-loop : tie.MeasureT-loop
 μ-loop desc context code from out₀ fixed₀ at₀ bytes₀ lines₀ out fixed at bytes lines = length code - at

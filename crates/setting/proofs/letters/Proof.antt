@@ -5,7 +5,7 @@ use mathlib.Core.Path.{_≡_, refl, sym, ap, _∙_}
 use native.Mathlib.Omega.{arith}
 use lib.ListN.{length, getD, take, drop, length-drop}
 use lib.Seq.{length-take-le, getD-take, getD-drop, ext-getD}
-use Rattle.format.specs.Layout.{Room}
+use Rattle.format.specs.Layout.{SectionsInBounds}
 use Rattle.format.specs.Description.{textOf}
 use Rattle.format.specs.declared.Layout.{Layout}
 use Rattle.format.proofs.Lists.{text-length, letter-here}
@@ -20,7 +20,7 @@ unfolding settingIn
 inside b a offset n f h = omega (arith, f .formed .room .text, rw (text-length b (layoutIn a)) at h)
 
 -- its bytes are the description's
-letters-are : (b : List ℕ) (l : Layout) (offset n from end : ℕ) → Room b l → offset + n ≤ l .text .count → from ≡ l .text .start + offset
+letters-are : (b : List ℕ) (l : Layout) (offset n from end : ℕ) → SectionsInBounds b l → offset + n ≤ l .text .count → from ≡ l .text .start + offset
     → end ≡ from + n → take (end - from) (drop from b) ≡ take n (drop offset (textOf b l))
 letters-are b l offset n from end room h f e =
     ext-getD 0 (take (end - from) (drop from b)) (take n (drop offset (textOf b l))) (long ∙ sym short) at

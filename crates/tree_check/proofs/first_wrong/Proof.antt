@@ -1,5 +1,5 @@
 use borrow.Author.Needs.{needs}
-use Rattle.trees.specs.Nodes.{countOf}
+use Rattle.tree_spec.specs.Nodes.{countOf}
 use Rattle.tree_check.proofs.Searching.{shown-is}
 use Prim.Native.Nat.{_≤_, _-_}
 use mathlib.Core.Bool.{false}
@@ -7,14 +7,14 @@ use mathlib.Core.Path.{_≡_, refl, sym, _∙_}
 use native.Mathlib.Omega.{arith}
 use Rattle.tree_check.proofs.Searching.{clear-none, clear-more, none-more}
 use Rattle.tree_form.proofs.Trees.{tree-of, sized, good-counted}
-use Rattle.tree_leaves.proofs.Judging.{tree-says}
-use Rattle.tree_leaves.specs.Path.{pathOf}
-use Rattle.trees.specs.Nodes.{placeAt}
+use Rattle.tree_theorems.proofs.Judging.{tree-says}
+use Rattle.tree_theorems.specs.Path.{pathOf}
+use Rattle.tree_spec.specs.Nodes.{placeAt}
 use Rattle.tree_rule.specs.Rule.{showsWrong}
 use Rattle.lists.specs.Below.{anyBelow}
 use Rattle.lists.proofs.Below.{any-none}
 use Rattle.format.specs.Description.{description}
-use Rattle.choosing.specs.Table.{patternFrom}
+use Rattle.choosing_spec.specs.Table.{patternFrom}
 use Rattle.tree_check.specs.declared.Found.the-variants.{Nothing}
 use Rattle.tree_check.specs.Search.{ClearBefore}
 use Rattle.tree_check.proofs.first_wrong.Statement.{statement}

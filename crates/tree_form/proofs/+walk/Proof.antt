@@ -2,8 +2,8 @@ use mathlib.Core.Bool.{true}
 use mathlib.Core.Path.{_≡_, sym, _∙_}
 use native.Mathlib.Omega.{arith}
 use borrow.Author.Needs.{needs}
-use Rattle.trees.specs.Nodes.{countOf, kindAt}
-use Rattle.trees.specs.Form.{nodeOk}
+use Rattle.tree_spec.specs.Nodes.{countOf, kindAt}
+use Rattle.tree_spec.specs.Form.{nodeOk}
 use Rattle.tree_form.proofs.Nodes.{bit-fits}
 use Rattle.tree_form.proofs.Steps.{Half, walk-out, walk-fault, walk-leaf, zero-fault, zero-out, zero-next, walk-both}
 use Prim.Native.Nat.{ℕ, _-_, _<_}

@@ -1,5 +1,5 @@
 use mathlib.Core.Path.{refl}
-use Rattle.trees.specs.Nodes.{bitAt}
+use Rattle.tree_spec.specs.Nodes.{bitAt}
 use borrow.Author.Needs.{needs}
 use Rattle.tree_form.proofs.bit.Statement.{statement}
 use Rattle.tree_form.proofs.bit.Tie as tie

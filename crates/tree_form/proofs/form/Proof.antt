@@ -1,7 +1,7 @@
 use mathlib.Core.Bool.{true}
 use mathlib.Core.Path.{_≡_, refl, sym, _∙_}
 use native.Mathlib.Omega.{arith}
-use Rattle.trees.specs.Form.{counted}
+use Rattle.tree_spec.specs.Form.{counted}
 use Rattle.tree_form.proofs.Trees.{sized}
 use Rattle.tree_form.proofs.Steps.{form-counted, form-miscounted}
 use borrow.Author.Needs.{needs}

@@ -1,5 +1,5 @@
 use mathlib.Core.Path.{refl}
-use Rattle.trees.specs.Nodes.{kindAt}
+use Rattle.tree_spec.specs.Nodes.{kindAt}
 use borrow.Author.Needs.{needs}
 use Rattle.tree_form.proofs.kind.Statement.{statement}
 use Rattle.tree_form.proofs.kind.Tie as tie

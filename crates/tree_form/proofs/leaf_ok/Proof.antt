@@ -1,4 +1,4 @@
-use Rattle.trees.specs.Form.{leafOk}
+use Rattle.tree_spec.specs.Form.{leafOk}
 use borrow.Author.Needs.{needs}
 use Rattle.tree_form.proofs.leaf_ok.Statement.{statement}
 use Rattle.tree_form.proofs.leaf_ok.Tie as tie

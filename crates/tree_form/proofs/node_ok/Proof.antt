@@ -1,6 +1,6 @@
 use mathlib.Core.Path.{sym, _∙_}
 use borrow.Author.Tests.{eq-eqb, ne-eqb}
-use Rattle.trees.specs.Form.{nodeOk}
+use Rattle.tree_spec.specs.Form.{nodeOk}
 use borrow.Author.Needs.{needs}
 use Rattle.tree_form.proofs.node_ok.Statement.{statement}
 use Rattle.tree_form.proofs.node_ok.Tie as tie

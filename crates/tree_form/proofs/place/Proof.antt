@@ -1,4 +1,4 @@
-use Rattle.trees.specs.Nodes.{placeAt}
+use Rattle.tree_spec.specs.Nodes.{placeAt}
 use borrow.Author.Needs.{needs}
 use Rattle.tree_form.proofs.place.Statement.{statement}
 use Rattle.tree_form.proofs.place.Tie as tie

@@ -17,7 +17,7 @@ use Rattle.walking.specs.Walks.{Within}
 use Rattle.walking.specs.declared.Walked.the-variants.{Done}
 use Rattle.walking.proofs.Readiness.{stayed, moved}
 use Rattle.walking.proofs.Steps.{within}
-use Rattle.walking.proofs.Turns.{Turn, first-turn, next-turn, refused-turn, last-turn, operand-field, operand-table, constructor-closes, table-full, table-far, table-refused, table-taken}
+use Rattle.walking.proofs.Turns.{LoopState, first-turn, next-turn, refused-turn, last-turn, operand-field, operand-table, constructor-closes, table-full, table-far, table-refused, table-taken}
 use borrow.Fn.Kinds.{In}
 use borrow.Fn.PlainCycle.{Measures, is, falls, and}
 use Rattle.walking.proofs.walk_constructor.Reads as walk-constructor
@@ -206,7 +206,7 @@ walk-operand-returns-2 t c = operand-table _ _ _ _ _ _ _ _ _ _ (c .before .befor
 
 abbrev walk-operands-Inv-loop : walk-operands-lts.InvT-loop
 walk-operands-Inv-loop desc fixed code at rows₀ first count ends₀ far₀ passed₀ o₀ rows ends far passed o =
-    Turn (settingIn desc fixed) first code at count passed₀ rows₀ rows ends far passed o
+    LoopState (settingIn desc fixed) first code at count passed₀ rows₀ rows ends far passed o
 
 abbrev walk-operands-μ-loop : walk-operands-lts.MeasureT-loop
 walk-operands-μ-loop desc fixed code at rows₀ first count ends₀ far₀ passed₀ o₀ rows ends far passed o = count - o

@@ -1,0 +1,38 @@
+use Rattle.choosing.proofs.Keeping.{withMatch-inner, withMatch-outer}
+use Rattle.choosing.specs.Scan.{withMatch}
+use mathlib.Core.Path.{sym, _∙_}
+use borrow.Author.Needs.{needs}
+use Rattle.choosing.proofs.with_match.Statement.{statement}
+use Rattle.choosing.proofs.with_match.Tie as tie
+use Rattle.choosing.proofs.with_match.Reads as reads
+use Rattle.choosing.proofs.with_match.Lts as lts
+use Rattle.choosing.proofs.row.Reads as row-reads
+use Rattle.patterns.proofs.lies_inside.Reads as lies-inside-reads
+
+row-requires : tie.Need-row-requires
+row-requires c κs = (c .before .before .pre .0, c .before .before .pre .1 .0 (c .if1 .taken))
+
+lies-inside-requires : tie.Need-lies-inside-requires
+lies-inside-requires c κs = search needs
+
+lies-inside-requires-2 : tie.Need-lies-inside-requires-2
+lies-inside-requires-2 c κs = search needs
+
+returns : tie.Need-returns
+returns c =
+    withMatch-inner _ (c .before .before .before .before .before .before .before .args .best) (c .before .before .before .before .before .before .before .args .j) (c .before .before .before .before .before .before .before .args .p) (c .before .before .before .before .row .result) (c .before .before .before .lies-inside .result) (c .before .before .before .before .before .if1 .taken)
+    (c .before .before .before .before .before .before .before .pre .1 .1) (c .before .before .before .before .row .ensures) (c .before .before .before .lies-inside .ensures) (sym (c .before .before .lies-inside2 .ensures) ∙ c .before .if2 .taken)
+
+returns-2 : tie.Need-returns-2
+returns-2 c =
+    withMatch-outer _ (c .before .before .before .before .before .before .before .args .best) (c .before .before .before .before .before .before .before .args .j) (c .before .before .before .before .before .before .before .args .p) (c .before .before .before .before .row .result) (c .before .before .before .lies-inside .result) (c .before .before .before .before .before .if1 .taken)
+    (c .before .before .before .before .before .before .before .pre .1 .1) (c .before .before .before .before .row .ensures) (c .before .before .before .lies-inside .ensures) (sym (c .before .before .lies-inside2 .ensures) ∙ c .before .if2 .left)
+
+returns-3 : tie.Need-returns-3
+unfolding withMatch
+returns-3 c = rw (c .if1 .left)
+
+pub with-match-spec : {M : Type 1} → statement M
+with-match-spec =
+    tie.close
+    (tie.spec row-requires lies-inside-requires lies-inside-requires-2 returns returns-2 returns-3)

@@ -1,0 +1,43 @@
+-- `sweep::step_at` meets its contract. Assumes nothing.
+use mathlib.Core.Path.{_∙_}
+use Rattle.sweep.proofs.Places.{gap-step, row-step}
+use borrow.Author.Needs.{needs}
+use Rattle.sweep.proofs.step_at.Statement.{statement}
+use Rattle.sweep.proofs.step_at.Tie as tie
+use Rattle.sweep.proofs.step_at.Reads as reads
+use Rattle.sweep.proofs.step_at.Lts as lts
+use Rattle.sweep.proofs.gap_of.Reads as gap-of-reads
+use Rattle.walking.proofs.step_at.Reads as step-at-reads
+
+step-at-requires : tie.Need-step-at-requires
+step-at-requires c κs = search needs
+
+enum-known-walked : tie.Need-enum-known-walked
+enum-known-walked c = search needs
+
+gap-of-requires : tie.Need-gap-of-requires
+gap-of-requires c κs = search needs
+
+enum-known-walked-2 : tie.Need-enum-known-walked-2
+enum-known-walked-2 c = search needs
+
+returns : tie.Need-returns
+returns c =
+    let walk = c .before .before .before .before .step-at in
+    (c .gap-of .ensures ∙ gap-step _ _ _ _ _ _ (walk .ensures .0) _ (c .before .before .walked .given .1), walk .ensures .1)
+
+returns-2 : tie.Need-returns-2
+returns-2 c =
+    let walk = c .before .before .before .step-at in
+    (row-step _ _ _ _ _ _ (walk .ensures .0) _ _ (c .before .walked2 .given .1), walk .ensures .1)
+
+pub step-at-spec : {M : Type 1} → statement M
+step-at-spec =
+    tie.close
+    (tie.spec
+    step-at-requires
+    enum-known-walked
+    gap-of-requires
+    enum-known-walked-2
+    returns
+    returns-2)

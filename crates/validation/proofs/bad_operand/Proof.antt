@@ -1,0 +1,50 @@
+use Prim.Native.Nat.{_-_}
+use mathlib.Core.Path.{sym, _∙_}
+use native.Mathlib.Omega.{arith}
+use borrow.Author.Needs.{needs}
+use Rattle.format.specs.Numbers.{operandBytes}
+use Rattle.format.specs.Record.{operandAt}
+use Rattle.format.specs.Description.{operandsOf, noOperand, fieldsOf}
+use Rattle.format.specs.Rules.{operandOk}
+use Rattle.format.specs.Check.{badOperand}
+use Rattle.format.proofs.Search.{Searched, search-start, search-step, search-stop, search-done}
+use Rattle.validation.proofs.bad_operand.Statement.{statement}
+use Rattle.validation.proofs.bad_operand.Tie as tie
+
+abbrev Inv-loop : tie.InvT-loop
+Inv-loop desc layout n c₀ i₀ c i = Searched operandAt operandBytes (λ _. operandOk (fieldsOf desc layout)) noOperand desc (layout .operands) (c .at) i
+
+abbrev μ-loop : tie.MeasureT-loop
+μ-loop desc layout n c₀ i₀ c i = n - i
+
+loop-again : tie.Need-loop-again Inv-loop μ-loop
+loop-again c =
+    let read = c .before .before .before .operand .ensures in
+    rw read
+    (search-step (c .before .before .before .before .before .loop .inv) (c .before .before .before .before .loop-test .taken)
+    (rw read at (sym (c .before .before .operand-ok .ensures) ∙ c .before .if1 .taken)))
+
+returns : tie.Need-returns Inv-loop μ-loop
+unfolding badOperand operandsOf
+returns c =
+    search-stop (c .before .before .before .before .loop .inv) (c .before .before .before .loop-test .taken)
+    (rw (c .before .before .operand .ensures) at (sym (c .before .operand-ok .ensures) ∙ c .if1 .left))
+
+returns-2 : tie.Need-returns-2 Inv-loop μ-loop
+unfolding badOperand operandsOf
+returns-2 c = search-done (c .before .loop .inv) (c .loop-test .left)
+
+pub bad-operand-spec : {M : Type 1} → statement M
+bad-operand-spec =
+    tie.close
+    (tie.spec
+    Inv-loop
+    μ-loop
+    (λ c. search-start)
+    (λ c κs. omega arith)
+    (λ c κs. search needs)
+    (λ c. omega arith)
+    (λ c. omega arith)
+    loop-again
+    returns
+    returns-2)

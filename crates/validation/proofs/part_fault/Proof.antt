@@ -1,0 +1,34 @@
+use Rattle.format.proofs.Lists.{operands-length, pieces-length, text-length}
+use Rattle.format.specs.Check.{partFault}
+use borrow.Author.Tests.{lt-ltb, le-ltb}
+use borrow.Author.Needs.{needs}
+use Rattle.validation.proofs.part_fault.Statement.{statement}
+use Rattle.validation.proofs.part_fault.Tie as tie
+
+returns : tie.Need-returns
+unfolding partFault
+returns c = rw (operands-length, ← c .before .before .bad-operand .ensures, lt-ltb _ _ (c .if1 .taken))
+
+returns-2 : tie.Need-returns-2
+unfolding partFault
+returns-2 c = rw (operands-length, ← c .before .before .before .before .before .bad-operand .ensures, le-ltb _ _ (c .before .before .before .if1 .left), pieces-length, ← c .before .before .bad-piece .ensures, lt-ltb _ _ (c .if2 .taken))
+
+returns-3 : tie.Need-returns-3
+unfolding partFault
+returns-3 c = rw (operands-length, ← c .before .before .before .before .before .before .before .before .bad-operand .ensures, le-ltb _ _ (c .before .before .before .before .before .before .if1 .left), pieces-length, ← c .before .before .before .before .before .bad-piece .ensures, le-ltb _ _ (c .before .before .before .if2 .left), text-length, ← c .before .before .bad-letter .ensures, lt-ltb _ _ (c .if3 .taken))
+
+returns-4 : tie.Need-returns-4
+unfolding partFault
+returns-4 c = rw (operands-length, ← c .before .before .before .before .before .before .before .before .bad-operand .ensures, le-ltb _ _ (c .before .before .before .before .before .before .if1 .left), pieces-length, ← c .before .before .before .before .before .bad-piece .ensures, le-ltb _ _ (c .before .before .before .if2 .left), text-length, ← c .before .before .bad-letter .ensures, le-ltb _ _ (c .if3 .left))
+
+pub part-fault-spec : {M : Type 1} → statement M
+part-fault-spec =
+    tie.close
+    (tie.spec
+    (λ c κs. search needs)
+    returns
+    (λ c κs. search needs)
+    returns-2
+    (λ c κs. search needs)
+    returns-3
+    returns-4)

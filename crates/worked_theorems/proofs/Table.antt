@@ -1,0 +1,81 @@
+-- Every worked case that document 01 marks with a star holds, by computation.
+use Prim.Native.Nat.{ℕ, _<_}
+use native.Mathlib.Omega.{arith}
+use lib.Dec.{lit<, lit≤}
+use mathlib.Core.Path.{_≡_, refl}
+use Rattle.lists.specs.Below.{allBelow, anyBelow, firstBelow}
+use Rattle.lists.specs.Tab.{tabFrom}
+use Rattle.bits.specs.Bits.{onesOf}
+use Rattle.format.specs.Layout.{sectionAt, layoutOf, namesFrom, constructorsFrom, operandsFrom, piecesFrom, textFrom}
+use Rattle.format.specs.Description.{fieldsOf, namesOf, constructorsOf, operandsOf, piecesOf, textOf}
+use Rattle.format.specs.Rules.{fieldOk, constructorOk, shapeOk, operandFits, pieceFits, shows, hasTable, operandOk}
+use Rattle.format.specs.Check.{checkOf, faultOf, partFault, badField, badName, badConstructor, badOperand, badPiece, badLetter}
+use Rattle.format.specs.Tables.{tableFirst, tableEnd}
+use Rattle.patterns.specs.Matching.{contextAgrees, matches, agrees, masksMissing, cutOff}
+use Rattle.patterns.specs.Relations.{insideBits, inside, meetBits, overlap, weight}
+use Rattle.choosing_spec.specs.Choosing.{short, matching, innermost, taken, alone, choose}
+use Rattle.choosing_spec.specs.Clashing.{crossing, third, clashing, partner, firstClash, clashOf}
+use Rattle.choosing_spec.specs.Table.{patternFrom}
+use Rattle.acceptance.specs.Acceptance.{acceptanceOf}
+use Rattle.table_query.specs.Asking.{askIn, askOf}
+use Rattle.clash_check.specs.Entry.{clashIn, clashAnswer}
+use Rattle.format.specs.declared.Pattern.{Pattern}
+use Rattle.choosing_spec.specs.ValidPattern.{ValidPattern}
+use Rattle.tree_spec.specs.Nodes.{kindAt, bitAt, placeAt}
+use Rattle.tree_spec.specs.Form.{start, leafOk, nodeOk, walkOf, formOf}
+use Rattle.tree_spec.specs.Verdicts.{Accepts, Rejects}
+use Rattle.tree_spec.specs.declared.Verdict.the-variants as verdict
+use Rattle.tree_rule.specs.Rule.{refutes, showsWrong}
+use Rattle.tree_theorems.specs.Path.{pathFrom, pathOf}
+use Rattle.tree_theorems.proofs.Sides.{sound-start}
+use Rattle.tree_theorems.proofs.Judging.{accepts, rejects}
+use Rattle.fields.specs.Value.{valueOf, ofBits, sourceBit, tokenByte}
+use Rattle.fields.specs.Look.{lookOf, numberOf, signedOf}
+use Rattle.decoding_spec.specs.Tree.{rowsOf, rowsOfAll, numbersOf}
+use Rattle.decoding_spec.specs.Walk as walk
+use Rattle.decoding_spec.specs.Walk.{shownAs, fieldFrom, operandFrom, closed, constructorFrom, tableFrom, walkFrom, choiceIn, instructionFrom, instructionOf}
+use Rattle.decoding.specs.Decoding.{decodeOf, rowsAfter}
+use Rattle.printing.specs.Numerals.{digitOf, digitsUpTo, digitsOf, signText, prefixText, numberText}
+use Rattle.printing.specs.Writing.{over}
+use Rattle.text.specs.Text as text
+use Rattle.text.specs.Text.{letters, pieceText, piecesText, constructorText, nameText, textsOf}
+use Rattle.text_decoding.specs.TextDecoding.{decodeTextOf, textAfter}
+use Rattle.worked_theorems.specs.Cases as cases-of
+use Rattle.worked_theorems.specs.Cases.{Starred, leafZero, leafNone, same, allHold, asks, clashes, bytes, rows, two, three, halves, chooses, pairs, decodes, reads, cases, holds}
+
+-- what table 0 of S has: one pattern, of no masked bit
+module _ (at : ℕ → Pattern) (e : at 0 ≡ start) where
+  sound : (j : ℕ) → j < 1 → ValidPattern (at j)
+  sound j h = let s : j ≡ 0 = omega arith in rw (s, e) sound-start
+
+  leaf-zero : Accepts 0 at 1 leafZero
+  unfolding formOf walkOf nodeOk leafOk kindAt bitAt placeAt showsWrong refutes pathOf pathFrom inside insideBits allBelow
+  leaf-zero =
+      accepts 0 at 1 leafZero sound (lit≤ tt) refl
+      (λ i l k j h. let s : i ≡ 0 = omega arith in let t : j ≡ 0 = omega arith in rw (s, t, e))
+
+  leaf-none : Rejects 0 at 1 leafNone 0 0 0
+  unfolding formOf walkOf nodeOk leafOk kindAt bitAt placeAt showsWrong refutes pathOf pathFrom overlap meetBits allBelow
+  leaf-none =
+      rw e at (rejects 0 at 1 leafNone sound (lit≤ tt) refl 0 0 (lit< tt) refl (lit< tt) refl (λ k h. absurd (omega arith)))
+
+pub cases-hold : Starred
+unfolding holds cases allHold same asks clashes bytes rows two three halves chooses pairs
+    allBelow anyBelow firstBelow tabFrom onesOf
+    sectionAt layoutOf namesFrom constructorsFrom operandsFrom piecesFrom textFrom
+    fieldsOf namesOf constructorsOf operandsOf piecesOf textOf
+    fieldOk constructorOk shapeOk operandFits pieceFits shows hasTable operandOk
+    checkOf faultOf partFault badField badName badConstructor badOperand badPiece badLetter
+    tableFirst tableEnd contextAgrees matches agrees masksMissing cutOff insideBits inside meetBits overlap weight
+    short matching innermost taken alone choose crossing third clashing partner firstClash clashOf
+    acceptanceOf patternFrom askIn askOf clashIn clashAnswer formOf walkOf nodeOk leafOk kindAt bitAt placeAt
+    cases-of.signedOf decodes valueOf ofBits sourceBit tokenByte lookOf numberOf signedOf rowsOf rowsOfAll numbersOf shownAs fieldFrom operandFrom
+    walk.operandsFrom closed constructorFrom tableFrom walkFrom choiceIn instructionFrom instructionOf decodeOf rowsAfter
+    reads digitOf digitsUpTo digitsOf signText prefixText numberText over letters pieceText piecesText constructorText nameText text.textOf textsOf
+    decodeTextOf textAfter
+cases-hold =
+    record {
+      computed = refl;
+      right = (verdict.Accepted, refl, leaf-zero _ refl);
+      wrong = (verdict.Rejected 0 0 0, refl, leaf-none _ refl);
+    }
