@@ -1,5 +1,5 @@
 -- One pass over a table: the record that lies inside the others so far.
-use Prim.Native.Nat.{ℕ, _<_}
+use Prim.Native.Nat.{ℕ, _<_, _≤_}
 use mathlib.Core.Bool.{Bool, true, false, cond, _&&_, _||_, not}
 use mathlib.Core.Path.{_≡_}
 use lib.Dec.{eqb}
@@ -21,7 +21,7 @@ wordShort at i j = wordsAgree (at j) i && not (wordsWhole (at j) i)
 abbrev pub wordMatch : (ℕ → Pattern) → Input → ℕ → Bool
 wordMatch at i j = wordsAgree (at j) i && wordsWhole (at j) i
 
--- one more matching record: the inner one of the two is kept; where neither or each lies inside the other, that is in unsure
+-- one more matching record: the inner one of the two is kept; where neither or each lies inside the other, that is in doubt
 unfoldable pub withMatch : (ℕ → Pattern) → Best → ℕ → Best
 withMatch at b j =
     cond (b .found)
@@ -42,6 +42,12 @@ pub record ScanState (at : ℕ → Pattern) (hit : ℕ → Bool) (n j : ℕ) (b 
   pub best : b .found ≡ true → (b .at < j) × (hit (b .at) ≡ true)
   pub sure : b .found ≡ true → b .unsure ≡ false → Inmost at hit j (b .at)
   pub held : (t : ℕ) → t < j → Inmost at hit n t → (b .found ≡ true) × (b .at ≡ t)
+
+-- records from one on that are passed over: none of them agrees
+pub record Skips (at : ℕ → Pattern) (i : Input) (n from r : ℕ) : Type 0 where
+  pub since : from ≤ r
+  pub within : r ≤ n
+  pub none : (j : ℕ) → from ≤ j → j < r → wordsAgree (at j) i ≡ false
 
 -- what is known of the records that match after a whole pass
 abbrev pub Passed : (ℕ → Pattern) → Input → ℕ → Best → Type 0

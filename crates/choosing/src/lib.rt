@@ -4,17 +4,18 @@ use format::Layout;
 use format::Pattern;
 use patterns::Input;
 use tables::Table;
-ghost use mathlib.Core.Bool.{true};
+ghost use mathlib.Core.Bool.{true, false};
 ghost use mathlib.Core.Path.{_≡_};
 ghost use Prim.Native.Nat.{_+_, _<_, _≤_};
 ghost use Rattle.format.specs.Layout.{SectionsInBounds};
 ghost use Rattle.format.specs.Description.{description};
+ghost use Rattle.patterns.specs.Words.{wordsAgree};
 ghost use Rattle.choosing_spec.specs.Choosing.{choose};
 ghost use Rattle.choosing_spec.specs.Table.{patternFrom};
 ghost use Rattle.choosing.specs.Patterns.{patternsOf};
-ghost use Rattle.choosing.specs.Scan.{withMatch, clearsAll, ScanResult, Passed, ChoiceOf};
+ghost use Rattle.choosing.specs.Scan.{withMatch, clearsAll, Skips, ScanResult, Passed, ChoiceOf};
 
-// What a pass has found so far: whether a record matches, the one that lies inside the others, and whether that is in unsure.
+// What a pass has found so far: whether a record matches, the one that lies inside the others, and whether that is in doubt.
 pub struct Best {
     pub found: bool,
     pub unsure: bool,
@@ -64,6 +65,63 @@ fn with_match(desc: &[u8], layout: Layout, first: usize, best: Best, j: usize, p
     }
 }
 
+// Whether a masked bit of a byte that is here differs.
+fn apart(p: Pattern, i: Input) -> bool
+    ensures { λ r. ⌜ (r ≡ true → wordsAgree p i ≡ false) ⌝ }
+{
+    (i.word ^ p.value) & (p.mask & i.here) != 0
+}
+
+// Most records are apart from the input, so they are passed over by fours, in a loop of their own.
+fn four_apart(desc: &[u8], layout: Layout, table: Table, input: Input, j: usize) -> bool
+    requires { ⌜ SectionsInBounds (now desc) layout ⌝ }
+    requires { ⌜ table .first + table .count ≤ layout .constructors .count ⌝ }
+    requires { ⌜ j + 4 ≤ table .count ⌝ }
+    ensures { λ r. ⌜ (r ≡ true → Skips (patternsOf (now (desc .entry)) layout table) input (table .count) j (j + 4)) ⌝ }
+{
+    let first = row(desc, layout, table.first, j);
+    let second = row(desc, layout, table.first, j + 1);
+    let third = row(desc, layout, table.first, j + 2);
+    let fourth = row(desc, layout, table.first, j + 3);
+    apart(first, input) & apart(second, input) & apart(third, input) & apart(fourth, input)
+}
+
+fn skip_fours(desc: &[u8], layout: Layout, table: Table, input: Input, from: usize) -> usize
+    requires { ⌜ SectionsInBounds (now desc) layout ⌝ }
+    requires { ⌜ table .first + table .count ≤ layout .constructors .count ⌝ }
+    requires { ⌜ from ≤ table .count ⌝ }
+    ensures { λ r. ⌜ Skips (patternsOf (now (desc .entry)) layout table) input (table .count) from r ⌝ }
+{
+    let mut j = from;
+    while table.count - j >= 4 {
+        if four_apart(desc, layout, table, input, j) {
+            j += 4;
+        } else {
+            return j;
+        }
+    }
+    j
+}
+
+// Past the records from one on that are apart.
+fn skip(desc: &[u8], layout: Layout, table: Table, input: Input, from: usize) -> usize
+    requires { ⌜ SectionsInBounds (now desc) layout ⌝ }
+    requires { ⌜ table .first + table .count ≤ layout .constructors .count ⌝ }
+    requires { ⌜ from ≤ table .count ⌝ }
+    ensures { λ r. ⌜ Skips (patternsOf (now (desc .entry)) layout table) input (table .count) from r ⌝ }
+{
+    let mut j = skip_fours(desc, layout, table, input, from);
+    while j < table.count {
+        let p = row(desc, layout, table.first, j);
+        if apart(p, input) {
+            j += 1;
+        } else {
+            return j;
+        }
+    }
+    j
+}
+
 fn scan(desc: &[u8], layout: Layout, table: Table, input: Input) -> Scanned
     requires { ⌜ SectionsInBounds (now desc) layout ⌝ }
     requires { ⌜ table .first + table .count ≤ layout .constructors .count ⌝ }
@@ -76,7 +134,10 @@ fn scan(desc: &[u8], layout: Layout, table: Table, input: Input) -> Scanned
     };
     let mut next = 0;
     while next < table.count {
-        let j = next;
+        let j = skip(desc, layout, table, input, next);
+        if j == table.count {
+            return Scanned::Complete(best);
+        }
         next = j + 1;
         let p = row(desc, layout, table.first, j);
         if patterns::agrees(p, input) {
@@ -111,7 +172,7 @@ fn clears_all(desc: &[u8], layout: Layout, table: Table, input: Input, t: usize)
     true
 }
 
-// Where the pass left no unsure, its record is taken; else every record is looked at once more.
+// Where the pass left no doubt, its record is taken; else every record is looked at once more.
 fn settle(desc: &[u8], layout: Layout, table: Table, input: Input, best: Best) -> Choice
     requires { ⌜ SectionsInBounds (now desc) layout ⌝ }
     requires { ⌜ table .first + table .count ≤ layout .constructors .count ⌝ }

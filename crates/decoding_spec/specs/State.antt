@@ -8,6 +8,14 @@ pub record Setting : Type 0 where
   pub description : Description
   pub total : ℕ
 
+-- for an input of so many bytes
+abbrev pub settingOf : Description → ℕ → Setting
+settingOf d n = record { description = d; total = n }
+
+-- the same for an input of so many bytes
+abbrev pub withTotal : ℕ → Setting → Setting
+withTotal n g = record { description = g .description; total = n }
+
 -- "The walk starts at byte 0": no row is used, in this context
 abbrev pub starting : ℕ → State
 starting c = record { used = 0; context = c; taken = 0 }

@@ -19,7 +19,7 @@ use Rattle.fields.specs.Value.{valueOf}
 use Rattle.fields.specs.Look.{lookOf, numberOf}
 use Rattle.fields.specs.declared.Look.{Look}
 use Rattle.fields.specs.declared.Look.the-variants as look
-use Rattle.decoding_spec.specs.State.{Setting, starting, counted, closedBy}
+use Rattle.decoding_spec.specs.State.{Setting, settingOf, starting, counted, closedBy}
 use Rattle.decoding_spec.specs.Tree.{Node, Nodes, built, numbered, named, none, more}
 use Rattle.decoding_spec.specs.declared.State.{State}
 use Rattle.decoding_spec.specs.declared.Refusal.{Refusal}
@@ -147,4 +147,4 @@ unfoldable pub instructionFrom : Setting → ℕ → List ℕ → Result Node
 instructionFrom g c s = rejectEmpty (walkFrom g (suc mostRows) (rootOf (g .description)) s 0 (starting c))
 
 unfoldable pub instructionOf : Description → ℕ → List ℕ → Result Node
-instructionOf d c s = instructionFrom (record { description = d; total = length s }) c s
+instructionOf d c s = instructionFrom (settingOf d (length s)) c s

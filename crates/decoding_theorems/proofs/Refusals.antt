@@ -26,7 +26,7 @@ use Rattle.choosing_spec.specs.declared.Choice.{Choice}
 use Rattle.choosing_spec.specs.declared.Choice.the-variants as choice
 use Rattle.choosing_spec.specs.Table.{patternFrom}
 use Rattle.choosing_theorems.proofs.Taken as choosing
-use Rattle.decoding_spec.specs.State.{Setting, starting, counted}
+use Rattle.decoding_spec.specs.State.{Setting, starting, counted, settingOf}
 use Rattle.decoding_spec.specs.Tree.{Node, Nodes, more}
 use Rattle.decoding_spec.specs.Walk.{Result, done, refused, Walker, andThen, full, widthOf, choiceIn, shownAs, startOf, closed, fieldFrom, operandFrom, operandsFrom, constructorFrom, taking, tableFrom, walkFrom, rejectEmpty, instructionFrom, instructionOf}
 use Rattle.decoding_spec.specs.declared.State.{State}
@@ -119,7 +119,7 @@ module _ (d : Description) (c : ℕ) (input : List ℕ) where
   explained : Explained (instructionOf d c input)
   unfolding instructionOf instructionFrom
   explained =
-      let g : Setting = record { description = d; total = length input } in
+      let g : Setting = settingOf d (length input) in
       and-then (walkFrom g (suc mostRows) (rootOf d) input 0 (starting c)) _ (walk g refl (suc mostRows) (rootOf d) input 0 (starting c) refl refl)
       (λ n l st h. test (eqb l 0) RootLengthZero (done n l st) tt h)
 

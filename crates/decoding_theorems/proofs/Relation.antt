@@ -20,7 +20,7 @@ use Rattle.fields.specs.declared.Look.{Look}
 use Rattle.fields.specs.declared.Look.the-variants as look
 use Rattle.choosing_spec.specs.declared.Choice.{Choice}
 use Rattle.choosing_spec.specs.declared.Choice.the-variants as choice
-use Rattle.decoding_spec.specs.State.{Setting, starting, counted, closedBy}
+use Rattle.decoding_spec.specs.State.{Setting, starting, counted, closedBy, settingOf}
 use Rattle.decoding_spec.specs.Tree.{Node, Nodes, built, more, none}
 use Rattle.decoding_spec.specs.Walk.{Result, done, refused, Walker, andThen, full, widthOf, choiceIn, shownAs, startOf, closed, closing, fieldFrom, operandFrom, operandsFrom, constructorFrom, taking, tableFrom, walkFrom, rejectEmpty, instructionFrom, instructionOf}
 use Rattle.decoding_spec.specs.declared.State.{State}
@@ -49,7 +49,7 @@ or-none false b e = e
 
 module _ (d : Description) (input : List ℕ) where
   abbrev g : Setting
-  g = record { description = d; total = length input }
+  g = settingOf d (length input)
 
   -- the walk of a table
   abbrev Walks : Walker → Type 0

@@ -21,7 +21,7 @@ use Rattle.choosing_spec.specs.declared.Choice.{Choice}
 use Rattle.choosing_spec.specs.declared.Choice.the-variants as choice
 use Rattle.choosing_spec.specs.Table.{chooseIn}
 use Rattle.choosing_theorems.proofs.Stays as choosing
-use Rattle.decoding_spec.specs.State.{Setting, starting, counted}
+use Rattle.decoding_spec.specs.State.{Setting, starting, counted, settingOf}
 use Rattle.decoding_spec.specs.Tree.{Node, Nodes, more}
 use Rattle.decoding_spec.specs.Walk.{Result, done, refused, Walker, andThen, full, widthOf, numberedFrom, choiceIn, shownAs, startOf, closed, closing, fieldFrom, operandFrom, operandsFrom, constructorFrom, taking, tableFrom, walkFrom, rejectEmpty, instructionFrom, instructionOf}
 use Rattle.decoding_spec.specs.declared.State.{State}
@@ -59,10 +59,10 @@ test-stays false x r r′ e h = e h
 -- for an input of `total` bytes, and one that is at least as long
 module _ (d : Description) (o : RulesHold d) (total total′ : ℕ) (grows : total ≤ total′) where
   abbrev g : Setting
-  g = record { description = d; total = total }
+  g = settingOf d total
 
   abbrev g′ : Setting
-  g′ = record { description = d; total = total′ }
+  g′ = settingOf d total′
 
   -- a test for the input's end, before what is done within it
   within-stays : (at end : ℕ) (r r′ : Result Node) → (end ≤ total → Whole r → r′ ≡ r) → Whole (cond (ltb total end) (refused (Short at)) r)
@@ -180,7 +180,7 @@ pub stays : (d : Description) → RulesHold d → (c : ℕ) (s m : List ℕ) →
     → instructionOf d c (s ++ m) ≡ instructionOf d c s
 unfolding instructionOf instructionFrom
 stays d o c s m h =
-    then-stays (walkFrom (record { description = d; total = length s }) (suc mostRows) (rootOf d) s 0 (starting c)) _ _ _
+    then-stays (walkFrom (settingOf d (length s)) (suc mostRows) (rootOf d) s 0 (starting c)) _ _ _
     (walk-stays d o (length s) (length (s ++ m)) (omega (arith, length-append s m)) (suc mostRows) (rootOf d) s m 0 (starting c) (omega arith))
     (λ n l st h. refl)
     h

@@ -23,7 +23,7 @@ use Rattle.choosing_spec.specs.declared.Choice.{Choice}
 use Rattle.choosing_spec.specs.declared.Choice.the-variants as choice
 use Rattle.choosing_spec.specs.Table.{patternFrom}
 use Rattle.choosing_theorems.proofs.Taken.{taken-facts}
-use Rattle.decoding_spec.specs.State.{Setting}
+use Rattle.decoding_spec.specs.State.{Setting, withTotal}
 use Rattle.decoding_spec.specs.Walk.{numberedFrom, choiceIn}
 use Rattle.setting.specs.Fixed.{totalPlace, gatheredPlace, startsPlace, flag, startsOf, fixedOf, layoutIn, settingIn, Fixed}
 use Rattle.setting.specs.Ranges.{RangeOf}
@@ -68,7 +68,7 @@ module _ (b a : List ℕ) (n : ℕ) where
         gathered = λ z. rw (layout-for, drop-set-lt startsPlace a totalPlace n (omega arith)) (f .gathered (rw (other gatheredPlace (λ e. omega arith)) at z));
       }
 
-  pub setting-for : totalPlace < length a → settingIn b (set a totalPlace n) ≡ record { description = settingIn b a .description; total = n }
+  pub setting-for : totalPlace < length a → settingIn b (set a totalPlace n) ≡ withTotal n (settingIn b a)
   unfolding settingIn
   setting-for h = rw (layout-for, getD-set-same a totalPlace n 0 h)
 

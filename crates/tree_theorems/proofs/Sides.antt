@@ -76,7 +76,7 @@ module _ (n : ℕ) (R : Asks) (m v k x : ℕ) (h : x < 2) (free : isSet m k ≡ 
       go j i e (yes d) = rw (d, here .1) q
       go j i e (no d) = rw (other j d .1) (r .at j i (sym (other j d .0) ∙ e))
 
--- a path's tests and values: what is taken out of a ValidPattern path
+-- a path's tests and values: what is taken out of a valid path
 module _ (p : Pattern) (s : List ℕ) (c k x : ℕ) (h : x < 2) (i : Input s c) where
   there : k < 64 → present s k ≡ true
   there l = lt-ltb (k / 8) (length s) (omega (arith, i .long))

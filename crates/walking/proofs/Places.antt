@@ -6,7 +6,7 @@ use native.Mathlib.Omega.{arith}
 use lib.IntN.{ℤ, pos}
 use lib.ListN.{length, take, drop, set, replicate, length-drop}
 use Rattle.format.specs.declared.Layout.{Layout}
-use Rattle.decoding_spec.specs.State.{Setting}
+use Rattle.decoding_spec.specs.State.{Setting, withTotal}
 use Rattle.decoding_spec.specs.Tree.{Node}
 use Rattle.decoding_spec.specs.Walk.{Result, done, refused, instructionFrom, instructionOf}
 use Rattle.decoding_spec.specs.declared.State.{State}
@@ -21,7 +21,7 @@ use Rattle.walking.specs.declared.Instruction.{Instruction}
 use Rattle.walking.proofs.Steps.{code-from, was-refused, was-done}
 
 module _ (b a s : List ℕ) (at c : ℕ) (long : totalPlace < length a) where
-  told : settingIn b (toldLength a s at) ≡ record { description = settingIn b a .description; total = length s - at }
+  told : settingIn b (toldLength a s at) ≡ withTotal (length s - at) (settingIn b a)
   told = setting-for b a (length s - at) long
 
   part : take (length s - at) (drop at s) ≡ drop at s
@@ -33,7 +33,7 @@ module _ (b a s : List ℕ) (at c : ℕ) (long : totalPlace < length a) where
 
   here : instructionFrom (settingIn b (toldLength a s at)) c (take (length s - at) (drop at s)) ≡ resultAt b a s at c
   unfolding resultAt instructionOf
-  here = rw (told, part) (ap (λ (n : ℕ). instructionFrom (record { description = settingIn b a .description; total = n }) c (drop at s)) (sym (length-drop at s)))
+  here = rw (told, part) (ap (λ (n : ℕ). instructionFrom (withTotal n (settingIn b a)) c (drop at s)) (sym (length-drop at s)))
 
   module _ (w : Walked) (old new : List ℤ) (walks : RootWalks b (toldLength a s at) c (take (length s - at) (drop at s)) old w new) where
     walks-here : WalksTo sizedOf (resultAt b a s at c) w 0 0 old new

@@ -293,14 +293,14 @@ fn walk_operands(
 {
     let first = constructor.operands.first as usize;
     let count = wide(constructor.operands.count);
-    let mut ends = [0usize; ENDS];
+    let mut ends = [0u8; ENDS];
     let mut far = 0;
     let mut passed = state;
     let mut o = 0;
     while o < count {
         let operand = setting::operand(desc, fixed, first + o);
         let anchor = wide(operand.anchor);
-        let start = ends[anchor] + wide(operand.offset);
+        let start = (ends[anchor] as usize) + wide(operand.offset);
         let walked = walk_operand(desc, fixed, operand, code, at, start, rows, passed);
         match walked {
             Walked::Refused(refusal) => {
@@ -313,7 +313,7 @@ fn walk_operands(
                 let end = start + length;
                 passed = then;
                 o += 1;
-                ends[o] = end;
+                ends[o] = end as u8;
                 far = larger(far, end);
             }
         }

@@ -25,27 +25,31 @@ enum-known-scanned c = search needs
 
 settle-requires : tie.Need-settle-requires
 settle-requires c κs =
+    let earlier = c .before .before .before .before .before .before .before in
     let t = rw (c .before .scanned .given .1) at (c .before .before .before .scan .ensures) in
-    (c .before .before .before .before .before .before .before .pre .0, (c .before .before .before .before .before .before .before .pre .1, t .1))
+    (earlier .pre .0, (earlier .pre .1, t .1))
 
 returns : tie.Need-returns
 returns c =
-    let s = c .before .before .before .before .before .before in
+    let earlier = c .before .before .before in
+    let s = earlier .before .before .before in
     cut-short (patternFrom (description (s .args .desc .now) (s .args .layout)) (s .args .table .first)) (s .args .table .count) (s .args .code .now) (s .args .context)
-    (c .before .before .before .input-of .result)
-    (rows-small (s .args .desc .now) (s .args .layout) (λ i. omega (arith, c .before .before .before .before .before .shared-slice-known .given i)) (s .args .table .first))
-    (λ i. omega (arith, c .before .before .before .before .shared-slice-known2 .given i)) (search needs) (c .before .before .before .input-of .ensures)
+    (earlier .input-of .result)
+    (rows-small (s .args .desc .now) (s .args .layout) (λ i. omega (arith, earlier .before .before .shared-slice-known .given i)) (s .args .table .first))
+    (λ i. omega (arith, earlier .before .shared-slice-known2 .given i)) (search needs) (earlier .input-of .ensures)
     (rw (c .enum-told .given .1) at (c .before .before .scan .ensures))
 
 returns-2 : tie.Need-returns-2
 returns-2 c =
-    let s = c .before .before .before .before .before .before .before .before in
-    let t = rw (c .before .before .scanned .given .1) at (c .before .before .before .before .scan .ensures) in
+    let earlier = c .before .before .before .before in
+    let earliest = earlier .before .before in
+    let s = earliest .before .before in
+    let t = rw (c .before .before .scanned .given .1) at (earlier .scan .ensures) in
     settled (patternFrom (description (s .args .desc .now) (s .args .layout)) (s .args .table .first)) (s .args .table .count) (s .args .code .now) (s .args .context)
-    (c .before .before .before .before .before .input-of .result)
-    (rows-small (s .args .desc .now) (s .args .layout) (λ i. omega (arith, c .before .before .before .before .before .before .before .shared-slice-known .given i)) (s .args .table .first))
-    (λ i. omega (arith, c .before .before .before .before .before .before .shared-slice-known2 .given i)) (search needs)
-    (c .before .before .before .before .before .input-of .ensures) (t .0) (c .settle .result) (c .settle .ensures)
+    (earlier .before .input-of .result)
+    (rows-small (s .args .desc .now) (s .args .layout) (λ i. omega (arith, earliest .before .shared-slice-known .given i)) (s .args .table .first))
+    (λ i. omega (arith, earliest .shared-slice-known2 .given i)) (search needs)
+    (earlier .before .input-of .ensures) (t .0) (c .settle .result) (c .settle .ensures)
 
 pub choose-in-spec : {M : Type 1} → statement M
 choose-in-spec =

@@ -37,9 +37,11 @@ clear-is : (c : tie.After-lies-inside2 Inv-loop μ-loop)
     → (eqb (c .before .before .before .before .before .before .before .loop .j) (c .before .before .before .before .before .before .before .before .before .before .args .t) || not (c .before .before .before .agrees .result && c .before .before .whole .result) || (c .before .lies-inside .result && not (c .lies-inside2 .result)))
     ≡ clears (rows (c .before .before .before .before .before .before .before .before .before .before)) (wordMatch (rows (c .before .before .before .before .before .before .before .before .before .before)) (c .before .before .before .before .before .before .before .before .before .before .args .input)) (c .before .before .before .before .before .before .before .before .before .before .args .t) (c .before .before .before .before .before .before .before .loop .j)
 clear-is c =
-    clears-is (rows (c .before .before .before .before .before .before .before .before .before .before)) (c .before .before .before .before .before .before .before .before .before .before .args .input) (c .before .before .before .before .before .before .before .loop .j) (c .before .before .before .before .row2 .result) (c .before .before .before .before .row2 .ensures) (c .before .before .before .before .before .before .before .before .before .before .args .t)
-    (c .before .before .before .before .before .before .before .before .row .result) (c .before .before .before .agrees .result) (c .before .before .whole .result) (c .before .lies-inside .result) (c .lies-inside2 .result)
-    (c .before .before .before .before .before .before .before .before .row .ensures) (c .before .before .before .agrees .ensures) (c .before .before .whole .ensures) (c .before .lies-inside .ensures) (c .lies-inside2 .ensures)
+    let earlier = c .before .before .before .before .before .before .before in
+    let earliest = earlier .before .before .before in
+    clears-is (rows earliest) (earliest .args .input) (earlier .loop .j) (c .before .before .before .before .row2 .result) (c .before .before .before .before .row2 .ensures) (earliest .args .t)
+    (earlier .before .row .result) (c .before .before .before .agrees .result) (c .before .before .whole .result) (c .before .lies-inside .result) (c .lies-inside2 .result)
+    (earlier .before .row .ensures) (c .before .before .before .agrees .ensures) (c .before .before .whole .ensures) (c .before .lies-inside .ensures) (c .lies-inside2 .ensures)
 
 row-requires : tie.Need-row-requires Inv-loop μ-loop
 row-requires c κs = (c .before .pre .0, omega arith)
@@ -69,15 +71,20 @@ loop-less : tie.Need-loop-less Inv-loop μ-loop
 loop-less c = omega arith
 
 loop-again : tie.Need-loop-again Inv-loop μ-loop
-loop-again c = (omega arith, all-more _ (c .before .before .before .before .before .before .before .before .loop .j) (c .before .before .before .before .before .before .before .before .loop .inv .1) (sym (clear-is (c .before)) ∙ c .if2 .taken))
+loop-again c =
+    let earlier = c .before .before .before .before .before .before .before .before in
+    (omega arith, all-more _ (earlier .loop .j) (earlier .loop .inv .1) (sym (clear-is (c .before)) ∙ c .if2 .taken))
 
 returns : tie.Need-returns Inv-loop μ-loop
-returns c = sym (all-stop _ _ (c .before .before .before .before .before .before .before .before .loop .j) (c .before .before .before .before .before .before .if1 .taken) (sym (clear-is (c .before)) ∙ c .if2 .left))
+returns c =
+    let earlier = c .before .before .before .before .before .before in
+    sym (all-stop _ _ (earlier .before .before .loop .j) (earlier .if1 .taken) (sym (clear-is (c .before)) ∙ c .if2 .left))
 
 returns-2 : tie.Need-returns-2 Inv-loop μ-loop
 returns-2 c =
-    let s : c .before .before .loop .j ≡ c .before .before .before .before .before .args .table .count = omega arith in
-    sym (rw s at (c .before .before .loop .inv .1))
+    let earlier = c .before .before in
+    let s : earlier .loop .j ≡ earlier .before .before .before .args .table .count = omega arith in
+    sym (rw s at (earlier .loop .inv .1))
 
 pub clears-all-spec : {M : Type 1} → statement M
 clears-all-spec =

@@ -1,6 +1,6 @@
 use Rattle.format.specs.declared.Pattern.{Pattern}
 use Rattle.choosing.proofs.Keeping.{is-match, is-short, is-none}
-use Rattle.choosing.proofs.Keeping.{kept-none, kept-skip, kept-withMatch, none-more}
+use Rattle.choosing.proofs.Keeping.{kept-none, kept-skip, kept-withMatch, none-more, skipped}
 use Rattle.choosing.specs.Scan.{wordShort, wordMatch, ScanState}
 use Rattle.choosing_spec.specs.Table.{patternFrom}
 use Rattle.format.specs.Description.{description}
@@ -15,8 +15,9 @@ use Rattle.choosing.proofs.scan.Statement.{statement}
 use Rattle.choosing.proofs.scan.Tie as tie
 use Rattle.choosing.proofs.scan.Reads as reads
 use Rattle.choosing.proofs.scan.Lts as lts
-use Rattle.choosing.proofs.with_match.Reads as with-match-reads
 use Rattle.choosing.proofs.row.Reads as row-reads
+use Rattle.choosing.proofs.skip.Reads as skip-reads
+use Rattle.choosing.proofs.with_match.Reads as with-match-reads
 use Rattle.patterns.proofs.agrees.Reads as agrees-reads
 use Rattle.patterns.proofs.whole.Reads as whole-reads
 
@@ -33,14 +34,31 @@ abbrev μ-loop : tie.MeasureT-loop
 abbrev rows : tie.Start Inv-loop μ-loop → ℕ → Pattern
 rows s = patternFrom (description (s .args .desc .now) (s .args .layout)) (s .args .table .first)
 
+-- what is known behind the records passed over
+behind : (c : tie.After-skip Inv-loop μ-loop)
+    → (anyBelow (c .skip .result) (wordShort (rows (c .before .before .before .before .before)) (c .before .before .before .before .before .args .input)) ≡ false)
+    × ScanState (rows (c .before .before .before .before .before)) (wordMatch (rows (c .before .before .before .before .before)) (c .before .before .before .before .before .args .input)) (c .before .before .before .before .before .args .table .count) (c .skip .result) (c .before .before .before .loop .best)
+behind c =
+    let earlier = c .before .before .before in
+    let earliest = earlier .before .before in
+    skipped (rows earliest) (earliest .args .input) (earliest .args .table .count) (earlier .loop .next) (c .skip .result) (earlier .loop .best) (c .skip .ensures) (earlier .loop .inv .1) (earlier .loop .inv .2)
+
 loop-holds : tie.Need-loop-holds Inv-loop μ-loop
 loop-holds c = (omega arith, any-none _, kept-none _ _ _)
 
+skip-requires : tie.Need-skip-requires Inv-loop μ-loop
+skip-requires c κs =
+    let earlier = c .before .before .before .before in
+    (earlier .pre .0, (earlier .pre .1, omega arith))
+
+returns : tie.Need-returns Inv-loop μ-loop
+returns c = rw (c .if2 .taken) at (behind (c .before .before))
+
 add-next : tie.Need-add-next Inv-loop μ-loop
-add-next c = omega arith
+add-next c = omega (arith, c .before .before .skip .ensures .within)
 
 row-requires : tie.Need-row-requires Inv-loop μ-loop
-row-requires c κs = (c .before .before .before .before .pre .0, omega arith)
+row-requires c κs = (c .before .before .before .before .before .before .before .pre .0, omega (arith, c .before .before .skip .ensures .within))
 
 agrees-requires : tie.Need-agrees-requires Inv-loop μ-loop
 agrees-requires c κs = search needs
@@ -50,42 +68,57 @@ whole-requires c κs = search needs
 
 with-match-requires : tie.Need-with-match-requires Inv-loop μ-loop
 with-match-requires c κs =
-    let k = c .before .before .before .before .before .before .before .loop .inv .2 in
-    (c .before .before .before .before .before .before .before .before .before .pre .0, (λ f. omega (arith, k .best f .0), c .before .before .before .before .row .ensures))
+    let earlier = c .before .before .before .before .before .before .before in
+    let known = behind earlier .1 in
+    (earlier .before .before .before .before .before .pre .0, (λ f. omega (arith, known .best f .0, earlier .skip .ensures .within), c .before .before .before .before .row .ensures))
 
 loop-less : tie.Need-loop-less Inv-loop μ-loop
-loop-less c = omega arith
+loop-less c =
+    let earlier = c .before .before .before .before .before .before .before .before in
+    omega (arith, earlier .skip .ensures .since, earlier .skip .ensures .within)
 
 loop-again : tie.Need-loop-again Inv-loop μ-loop
 loop-again c =
-    let inv = c .before .before .before .before .before .before .before .before .loop .inv in
-    let t = is-match (rows (c .before .before .before .before .before .before .before .before .before .before)) (c .before .before .before .before .before .before .before .before .before .before .args .input) (c .before .before .before .before .before .before .before .before .loop .next) (c .before .before .before .before .before .row .result) (c .before .before .before .before .before .row .ensures) (sym (c .before .before .before .before .agrees .ensures) ∙ c .before .before .before .if2 .taken) (sym (c .before .before .whole .ensures) ∙ c .before .if3 .taken) in (
-      omega arith,
-      none-more _ (c .before .before .before .before .before .before .before .before .loop .next) (inv .1) (t .0),
-      rw (c .with-match .ensures) (kept-withMatch _ _ _ (c .before .before .before .before .before .before .before .before .loop .next) (c .before .before .before .before .before .before .before .before .loop .best) (t .1) (inv .2) (omega arith)),
-    )
-
-returns : tie.Need-returns Inv-loop μ-loop
-returns c =
-    any-at _ _ (c .before .before .before .before .before .before .before .loop .next) (c .before .before .before .before .before .if1 .taken)
-    (is-short (rows (c .before .before .before .before .before .before .before .before .before)) (c .before .before .before .before .before .before .before .before .before .args .input) (c .before .before .before .before .before .before .before .loop .next) (c .before .before .before .before .row .result) (c .before .before .before .before .row .ensures) (sym (c .before .before .before .agrees .ensures) ∙ c .before .before .if2 .taken) (sym (c .before .whole .ensures) ∙ c .if3 .left))
-
-loop-less-2 : tie.Need-loop-less-2 Inv-loop μ-loop
-loop-less-2 c = omega arith
-
-loop-again-2 : tie.Need-loop-again-2 Inv-loop μ-loop
-loop-again-2 c =
-    let inv = c .before .before .before .before .before .loop .inv in
-    let t = is-none (rows (c .before .before .before .before .before .before .before)) (c .before .before .before .before .before .before .before .args .input) (c .before .before .before .before .before .loop .next) (c .before .before .row .result) (c .before .before .row .ensures) (sym (c .before .agrees .ensures) ∙ c .if2 .left) in (
-      omega arith,
-      none-more _ (c .before .before .before .before .before .loop .next) (inv .1) (t .0),
-      kept-skip _ _ _ (c .before .before .before .before .before .loop .next) (c .before .before .before .before .before .loop .best) (t .1) (inv .2),
+    let earlier = c .before .before .before .before .before .before .before .before in
+    let earliest = earlier .before .before .before in
+    let j = earlier .skip .result in
+    let known = behind earlier in
+    let t = is-match (rows (earliest .before .before)) (earliest .before .before .args .input) j (c .before .before .before .before .before .row .result) (c .before .before .before .before .before .row .ensures) (sym (c .before .before .before .before .agrees .ensures) ∙ c .before .before .before .if3 .taken) (sym (c .before .before .whole .ensures) ∙ c .before .if4 .taken) in (
+      omega (arith, earlier .skip .ensures .within),
+      none-more _ j (known .0) (t .0),
+      rw (c .with-match .ensures) (kept-withMatch _ _ _ j (earliest .loop .best) (t .1) (known .1) (omega (arith, earlier .skip .ensures .within))),
     )
 
 returns-2 : tie.Need-returns-2 Inv-loop μ-loop
 returns-2 c =
-    let s : c .before .before .loop .next ≡ c .before .before .before .before .args .table .count = omega arith in
-    (rw s at (c .before .before .loop .inv .1), rw s at (c .before .before .loop .inv .2))
+    let earlier = c .before .before .before .before .before .before .before in
+    let earliest = earlier .before .before .before .before .before in
+    let j = earlier .skip .result in
+    any-at _ _ j (omega (arith, earlier .skip .ensures .within))
+    (is-short (rows earliest) (earliest .args .input) j (c .before .before .before .before .row .result) (c .before .before .before .before .row .ensures) (sym (c .before .before .before .agrees .ensures) ∙ c .before .before .if3 .taken) (sym (c .before .whole .ensures) ∙ c .if4 .left))
+
+loop-less-2 : tie.Need-loop-less-2 Inv-loop μ-loop
+loop-less-2 c =
+    let earlier = c .before .before .before .before .before in
+    omega (arith, earlier .skip .ensures .since, earlier .skip .ensures .within)
+
+loop-again-2 : tie.Need-loop-again-2 Inv-loop μ-loop
+loop-again-2 c =
+    let earlier = c .before .before .before .before .before in
+    let earliest = earlier .before .before .before in
+    let j = earlier .skip .result in
+    let known = behind earlier in
+    let t = is-none (rows (earliest .before .before)) (earliest .before .before .args .input) j (c .before .before .row .result) (c .before .before .row .ensures) (sym (c .before .agrees .ensures) ∙ c .if3 .left) in (
+      omega (arith, earlier .skip .ensures .within),
+      none-more _ j (known .0) (t .0),
+      kept-skip _ _ _ j (earliest .loop .best) (t .1) (known .1),
+    )
+
+returns-3 : tie.Need-returns-3 Inv-loop μ-loop
+returns-3 c =
+    let earlier = c .before .before in
+    let s : earlier .loop .next ≡ earlier .before .before .args .table .count = omega arith in
+    (rw s at (earlier .loop .inv .1), rw s at (earlier .loop .inv .2))
 
 pub scan-spec : {M : Type 1} → statement M
 scan-spec =
@@ -94,6 +127,8 @@ scan-spec =
     Inv-loop
     μ-loop
     loop-holds
+    skip-requires
+    returns
     add-next
     row-requires
     agrees-requires
@@ -101,7 +136,7 @@ scan-spec =
     with-match-requires
     loop-less
     loop-again
-    returns
+    returns-2
     loop-less-2
     loop-again-2
-    returns-2)
+    returns-3)

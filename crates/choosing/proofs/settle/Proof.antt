@@ -9,7 +9,9 @@ use Rattle.choosing.proofs.settle.Lts as lts
 use Rattle.choosing.proofs.clears_all.Reads as clears-all-reads
 
 clears-all-requires : tie.Need-clears-all-requires
-clears-all-requires c κs = (c .before .before .before .pre .0, (c .before .before .before .pre .1 .0, c .before .before .before .pre .1 .1 .best (c .before .if1 .taken) .0))
+clears-all-requires c κs =
+    let earlier = c .before .before .before in
+    (earlier .pre .0, (earlier .pre .1 .0, earlier .pre .1 .1 .best (c .before .if1 .taken) .0))
 
 returns : tie.Need-returns
 returns c =

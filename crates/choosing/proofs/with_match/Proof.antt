@@ -20,13 +20,17 @@ lies-inside-requires-2 c κs = search needs
 
 returns : tie.Need-returns
 returns c =
-    withMatch-inner _ (c .before .before .before .before .before .before .before .args .best) (c .before .before .before .before .before .before .before .args .j) (c .before .before .before .before .before .before .before .args .p) (c .before .before .before .before .row .result) (c .before .before .before .lies-inside .result) (c .before .before .before .before .before .if1 .taken)
-    (c .before .before .before .before .before .before .before .pre .1 .1) (c .before .before .before .before .row .ensures) (c .before .before .before .lies-inside .ensures) (sym (c .before .before .lies-inside2 .ensures) ∙ c .before .if2 .taken)
+    let earlier = c .before .before .before in
+    let earliest = earlier .before .before .before .before in
+    withMatch-inner _ (earliest .args .best) (earliest .args .j) (earliest .args .p) (earlier .before .row .result) (earlier .lies-inside .result) (earlier .before .before .if1 .taken)
+    (earliest .pre .1 .1) (earlier .before .row .ensures) (earlier .lies-inside .ensures) (sym (c .before .before .lies-inside2 .ensures) ∙ c .before .if2 .taken)
 
 returns-2 : tie.Need-returns-2
 returns-2 c =
-    withMatch-outer _ (c .before .before .before .before .before .before .before .args .best) (c .before .before .before .before .before .before .before .args .j) (c .before .before .before .before .before .before .before .args .p) (c .before .before .before .before .row .result) (c .before .before .before .lies-inside .result) (c .before .before .before .before .before .if1 .taken)
-    (c .before .before .before .before .before .before .before .pre .1 .1) (c .before .before .before .before .row .ensures) (c .before .before .before .lies-inside .ensures) (sym (c .before .before .lies-inside2 .ensures) ∙ c .before .if2 .left)
+    let earlier = c .before .before .before in
+    let earliest = earlier .before .before .before .before in
+    withMatch-outer _ (earliest .args .best) (earliest .args .j) (earliest .args .p) (earlier .before .row .result) (earlier .lies-inside .result) (earlier .before .before .if1 .taken)
+    (earliest .pre .1 .1) (earlier .before .row .ensures) (earlier .lies-inside .ensures) (sym (c .before .before .lies-inside2 .ensures) ∙ c .before .if2 .left)
 
 returns-3 : tie.Need-returns-3
 unfolding withMatch

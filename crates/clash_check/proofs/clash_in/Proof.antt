@@ -20,12 +20,15 @@ table-of-requires c κs = search needs
 
 returns : tie.Need-returns
 unfolding clashIn
-returns c = rw (absent _ (obeyed _ _ (c .before .before .before .before .pre)) _ _ _ (c .before .before .table-of .ensures .0) (c .before .before .table-of .ensures .1) (c .if1 .taken))
+returns c =
+    let earlier = c .before .before in
+    rw (absent _ (obeyed _ _ (earlier .before .before .pre)) _ _ _ (earlier .table-of .ensures .0) (earlier .table-of .ensures .1) (c .if1 .taken))
 
 first-clash-requires : tie.Need-first-clash-requires
 first-clash-requires c κs =
-    let s = c .before .before .before .before in
-    (s .pre .room, rw constructors-length at (in-section _ (obeyed _ _ (s .pre)) _ _ _ (c .before .before .table-of .ensures .0) (c .before .before .table-of .ensures .1)))
+    let earlier = c .before .before in
+    let s = earlier .before .before in
+    (s .pre .room, rw constructors-length at (in-section _ (obeyed _ _ (s .pre)) _ _ _ (earlier .table-of .ensures .0) (earlier .table-of .ensures .1)))
 
 enum-told : tie.Need-enum-told
 enum-told c = search needs
@@ -35,28 +38,32 @@ enum-known-found c = search needs
 
 add-t10 : tie.Need-add-t10
 add-t10 c =
-    let s = c .before .before .before .before .before .before .before .before .before in
+    let earlier = c .before .before .before .before .before .before .before in
+    let s = earlier .before .before in
     let p = pair-first _ _ _ _ (sym (c .before .before .before .before .first-clash .ensures) ∙ c .before .before .found .given .1) in
-    let n : c .before .before .before .before .before .before .before .table-of .result .first + c .before .before .before .before .before .before .before .table-of .result .count ≤ s .args .layout .constructors .count = rw constructors-length at (in-section _ (obeyed _ _ (s .pre)) _ _ _ (c .before .before .before .before .before .before .before .table-of .ensures .0) (c .before .before .before .before .before .before .before .table-of .ensures .1)) in
+    let n : earlier .table-of .result .first + earlier .table-of .result .count ≤ s .args .layout .constructors .count = rw constructors-length at (in-section _ (obeyed _ _ (s .pre)) _ _ _ (earlier .table-of .ensures .0) (earlier .table-of .ensures .1)) in
     omega (arith, p .order, p .inside, s .pre .room .constructors)
 
 add-t11 : tie.Need-add-t11
 add-t11 c =
-    let s = c .before .before .before .before .before .before .before .before .before .before in
+    let earlier = c .before .before .before .before .before .before .before .before in
+    let s = earlier .before .before in
     let p = pair-first _ _ _ _ (sym (c .before .before .before .before .before .first-clash .ensures) ∙ c .before .before .before .found .given .1) in
-    let n : c .before .before .before .before .before .before .before .before .table-of .result .first + c .before .before .before .before .before .before .before .before .table-of .result .count ≤ s .args .layout .constructors .count = rw constructors-length at (in-section _ (obeyed _ _ (s .pre)) _ _ _ (c .before .before .before .before .before .before .before .before .table-of .ensures .0) (c .before .before .before .before .before .before .before .before .table-of .ensures .1)) in
+    let n : earlier .table-of .result .first + earlier .table-of .result .count ≤ s .args .layout .constructors .count = rw constructors-length at (in-section _ (obeyed _ _ (s .pre)) _ _ _ (earlier .table-of .ensures .0) (earlier .table-of .ensures .1)) in
     omega (arith, p .order, p .inside, s .pre .room .constructors)
 
 returns-2 : tie.Need-returns-2
 returns-2 c =
-    answer _ _ _ _ (c .before .before .before .before .before .table-of .ensures .0) (c .before .before .before .before .before .table-of .ensures .1)
-    (there _ (obeyed _ _ (c .before .before .before .before .before .before .before .pre)) _ _ _ (c .before .before .before .before .before .table-of .ensures .0) (c .before .before .before .before .before .table-of .ensures .1) (c .before .before .before .if1 .left)) _
+    let earlier = c .before .before .before .before .before in
+    answer _ _ _ _ (earlier .table-of .ensures .0) (earlier .table-of .ensures .1)
+    (there _ (obeyed _ _ (earlier .before .before .pre)) _ _ _ (earlier .table-of .ensures .0) (earlier .table-of .ensures .1) (c .before .before .before .if1 .left)) _
     (sym (c .before .before .first-clash .ensures) ∙ c .enum-told .given .1)
 
 returns-3 : tie.Need-returns-3
 returns-3 c =
-    answer _ _ _ _ (c .before .before .before .before .before .before .before .before .table-of .ensures .0) (c .before .before .before .before .before .before .before .before .table-of .ensures .1)
-    (there _ (obeyed _ _ (c .before .before .before .before .before .before .before .before .before .before .pre)) _ _ _ (c .before .before .before .before .before .before .before .before .table-of .ensures .0) (c .before .before .before .before .before .before .before .before .table-of .ensures .1) (c .before .before .before .before .before .before .if1 .left)) _
+    let earlier = c .before .before .before .before .before .before .before .before in
+    answer _ _ _ _ (earlier .table-of .ensures .0) (earlier .table-of .ensures .1)
+    (there _ (obeyed _ _ (earlier .before .before .pre)) _ _ _ (earlier .table-of .ensures .0) (earlier .table-of .ensures .1) (c .before .before .before .before .before .before .if1 .left)) _
     (sym (c .before .before .before .before .before .first-clash .ensures) ∙ c .before .before .before .found .given .1)
 
 pub clash-in-spec : {M : Type 1} → statement M

@@ -26,9 +26,10 @@ lies-inside-requires-2 c κs = search needs
 
 returns-2 : tie.Need-returns-2
 returns-2 c =
-    let s = c .before .before .before .before .before .before in
-    clash-nested _ _ _ _ _ _ (s .pre .1 .1 .0) (s .pre .1 .1 .1 .0) (sym (c .before .before .before .before .same .ensures) ∙ c .before .before .before .if1 .left)
-    (rw (c .before .before .lies-inside .ensures, c .before .lies-inside2 .ensures) at (c .if2 .taken))
+    let earlier = c .before .before in
+    let s = earlier .before .before .before .before in
+    clash-nested _ _ _ _ _ _ (s .pre .1 .1 .0) (s .pre .1 .1 .1 .0) (sym (earlier .before .before .same .ensures) ∙ earlier .before .if1 .left)
+    (rw (earlier .lies-inside .ensures, c .before .lies-inside2 .ensures) at (c .if2 .taken))
 
 joined-requires : tie.Need-joined-requires
 joined-requires c κs = search needs
@@ -38,9 +39,11 @@ has-third-requires c κs = search needs
 
 returns-3 : tie.Need-returns-3
 returns-3 c =
-    let s = c .before .before .before .before .before .before .before .before in
-    clash-crossing _ _ _ _ _ _ (s .pre .1 .1 .0) (s .pre .1 .1 .1 .0) (s .pre .1 .1 .1 .1) (sym (c .before .before .before .before .before .before .same .ensures) ∙ c .before .before .before .before .before .if1 .left)
-    (rw (c .before .before .before .before .lies-inside .ensures, c .before .before .before .lies-inside2 .ensures) at (c .before .before .if2 .left))
+    let earlier = c .before .before .before in
+    let earliest = earlier .before .before in
+    let s = earliest .before .before .before in
+    clash-crossing _ _ _ _ _ _ (s .pre .1 .1 .0) (s .pre .1 .1 .1 .0) (s .pre .1 .1 .1 .1) (sym (earliest .before .same .ensures) ∙ earliest .if1 .left)
+    (rw (earlier .before .lies-inside .ensures, earlier .lies-inside2 .ensures) at (c .before .before .if2 .left))
     (c .has-third .result) (rw (c .before .joined .ensures) at (c .has-third .ensures))
 
 pub crosses-spec : {M : Type 1} → statement M

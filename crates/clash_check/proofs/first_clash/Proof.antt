@@ -28,7 +28,9 @@ partner-of-requires : tie.Need-partner-of-requires Inv-loop μ-loop
 partner-of-requires c κs = search needs
 
 returns : tie.Need-returns Inv-loop μ-loop
-returns c = pair-found _ _ (c .before .before .before .before .before .loop .i) _ (c .before .before .before .if1 .taken) (c .before .before .partner-of .ensures) (c .if2 .taken) (c .before .before .before .before .before .loop .inv .1)
+returns c =
+    let earlier = c .before .before in
+    pair-found _ _ (earlier .before .before .before .loop .i) _ (earlier .before .if1 .taken) (earlier .partner-of .ensures) (c .if2 .taken) (earlier .before .before .before .loop .inv .1)
 
 add-i : tie.Need-add-i Inv-loop μ-loop
 add-i c = omega arith
@@ -37,12 +39,15 @@ loop-less : tie.Need-loop-less Inv-loop μ-loop
 loop-less c = omega arith
 
 loop-again : tie.Need-loop-again Inv-loop μ-loop
-loop-again c = (omega arith, quiet-more _ _ (c .before .before .before .before .before .loop .i) _ (c .before .before .partner-of .ensures) (c .if2 .left) (c .before .before .before .before .before .loop .inv .1))
+loop-again c =
+    let earlier = c .before .before .before .before .before in
+    (omega arith, quiet-more _ _ (earlier .loop .i) _ (c .before .before .partner-of .ensures) (c .if2 .left) (earlier .loop .inv .1))
 
 returns-2 : tie.Need-returns-2 Inv-loop μ-loop
 returns-2 c =
-    let s : c .before .before .loop .i ≡ c .before .before .before .before .args .table .count = omega arith in
-    none-found _ _ (rw s at (c .before .before .loop .inv .1))
+    let earlier = c .before .before in
+    let s : earlier .loop .i ≡ earlier .before .before .args .table .count = omega arith in
+    none-found _ _ (rw s at (earlier .loop .inv .1))
 
 pub first-clash-spec : {M : Type 1} → statement M
 first-clash-spec =

@@ -48,7 +48,8 @@ same-requires c κs = search needs
 
 returns : tie.Need-returns Inv-loop μ-loop
 returns c =
-    sym (any-at (is (rows (c .before .before .before .before .before .before .before)) (c .before .before .before .before .before .before .before .args .i) (c .before .before .before .before .before .before .before .args .j) (c .before .before .before .before .before .before .before .args .p)) _ (c .before .before .before .before .before .loop .t) (c .before .before .before .if1 .taken)
+    let earlier = c .before .before .before .before .before .before .before in
+    sym (any-at (is (rows earlier) (earlier .args .i) (earlier .args .j) (earlier .args .p)) _ (c .before .before .before .before .before .loop .t) (c .before .before .before .if1 .taken)
     (sym (test-is (c .before)) ∙ c .if2 .taken))
 
 add-t : tie.Need-add-t Inv-loop μ-loop
@@ -59,15 +60,18 @@ loop-less c = omega arith
 
 loop-again : tie.Need-loop-again Inv-loop μ-loop
 loop-again c =
-    let f = is (rows (c .before .before .before .before .before .before .before)) (c .before .before .before .before .before .before .before .args .i) (c .before .before .before .before .before .before .before .args .j) (c .before .before .before .before .before .before .before .args .p) in (
+    let earlier = c .before .before .before .before .before in
+    let earliest = earlier .before .before in
+    let f = is (rows earliest) (earliest .args .i) (earliest .args .j) (earliest .args .p) in (
       omega arith,
-      any-more f (c .before .before .before .before .before .loop .t) ∙ rw (c .before .before .before .before .before .loop .inv .1) (sym (test-is (c .before)) ∙ c .if2 .left),
+      any-more f (earlier .loop .t) ∙ rw (earlier .loop .inv .1) (sym (test-is (c .before)) ∙ c .if2 .left),
     )
 
 returns-2 : tie.Need-returns-2 Inv-loop μ-loop
 returns-2 c =
-    let s : c .before .before .loop .t ≡ c .before .before .before .before .args .table .count = omega arith in
-    sym (rw s at (c .before .before .loop .inv .1))
+    let earlier = c .before .before in
+    let s : earlier .loop .t ≡ earlier .before .before .args .table .count = omega arith in
+    sym (rw s at (earlier .loop .inv .1))
 
 pub has-third-spec : {M : Type 1} → statement M
 has-third-spec =

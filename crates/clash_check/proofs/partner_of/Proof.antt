@@ -40,7 +40,8 @@ clashes-requires c κs =
 
 returns : tie.Need-returns Inv-loop μ-loop
 returns c =
-    partner-stop _ _ _ (c .before .before .before .before .before .loop .j) (omega arith) (c .before .before .before .if1 .taken) (sym (c .before .clashes .ensures) ∙ c .if2 .taken) (c .before .before .before .before .before .loop .inv .3)
+    let earlier = c .before .before .before in
+    partner-stop _ _ _ (earlier .before .before .loop .j) (omega arith) (earlier .if1 .taken) (sym (c .before .clashes .ensures) ∙ c .if2 .taken) (earlier .before .before .loop .inv .3)
 
 add-j-2 : tie.Need-add-j-2 Inv-loop μ-loop
 add-j-2 c = omega arith
@@ -49,17 +50,19 @@ loop-less : tie.Need-loop-less Inv-loop μ-loop
 loop-less c = omega arith
 
 loop-again : tie.Need-loop-again Inv-loop μ-loop
-loop-again c = (
-  omega arith,
-  omega arith,
-  c .before .before .before .before .before .loop .inv .2,
-  parted-more _ _ _ (c .before .before .before .before .before .loop .j) (omega arith) (sym (c .before .clashes .ensures) ∙ c .if2 .left) (c .before .before .before .before .before .loop .inv .3),
-)
+loop-again c =
+    let earlier = c .before .before .before .before .before in (
+      omega arith,
+      omega arith,
+      earlier .loop .inv .2,
+      parted-more _ _ _ (earlier .loop .j) (omega arith) (sym (c .before .clashes .ensures) ∙ c .if2 .left) (earlier .loop .inv .3),
+    )
 
 returns-2 : tie.Need-returns-2 Inv-loop μ-loop
 returns-2 c =
-    let s : c .before .before .loop .j ≡ c .before .before .before .before .before .args .table .count = omega arith in
-    s ∙ partner-done _ _ _ (rw s at (c .before .before .loop .inv .3))
+    let earlier = c .before .before in
+    let s : earlier .loop .j ≡ earlier .before .before .before .args .table .count = omega arith in
+    s ∙ partner-done _ _ _ (rw s at (earlier .loop .inv .3))
 
 pub partner-of-spec : {M : Type 1} → statement M
 partner-of-spec =

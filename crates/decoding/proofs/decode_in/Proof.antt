@@ -39,10 +39,14 @@ mul-if1 : tie.Need-mul-if1
 mul-if1 c = omega (arith, few _ _ _ _ (found (c .before .before .before)) _ _ (c .before .walked2 .given .1))
 
 returns : tie.Need-returns
-returns c = no-room-told _ _ _ _ (found (c .before .before .before .before)) _ _ (c .before .before .walked2 .given .1) (c .before .before .before .before .before .before .before .before .before .args .rows .now) (c .if1 .taken)
+returns c =
+    let earlier = c .before .before in
+    no-room-told _ _ _ _ (found (earlier .before .before)) _ _ (earlier .walked2 .given .1) (earlier .before .before .before .before .before .before .before .args .rows .now) (c .if1 .taken)
 
 copy-rows-requires : tie.Need-copy-rows-requires
-copy-rows-requires c κs = (few _ _ _ _ (found (c .before .before .before .before .before .before .before)) _ _ (c .before .before .before .before .before .walked2 .given .1), c .before .before .before .if1 .left)
+copy-rows-requires c κs =
+    let earlier = c .before .before .before in
+    (few _ _ _ _ (found (earlier .before .before .before .before)) _ _ (earlier .before .before .walked2 .given .1), earlier .if1 .left)
 
 returns-2 : tie.Need-returns-2
 returns-2 c = refusal-told _ _ _ _ (found (c .before .before .before)) _ _ (c .before .walked .given .1)
@@ -51,7 +55,9 @@ same-length : tie.Need-same-length
 same-length c = search needs
 
 returns-3 : tie.Need-returns-3
-returns-3 c = rows-told _ _ _ _ (found (c .before .before .before .before .before .before .before .before .before)) _ _ (c .before .before .before .before .before .before .before .walked2 .given .1) _ _ (c .before .before .before .before .before .if1 .left) (c .before .copy-rows .ensures)
+returns-3 c =
+    let earlier = c .before .before .before .before .before in
+    rows-told _ _ _ _ (found (earlier .before .before .before .before)) _ _ (earlier .before .before .walked2 .given .1) _ _ (earlier .if1 .left) (c .before .copy-rows .ensures)
 
 pub decode-in-spec : {M : Type 1} → statement M
 decode-in-spec =

@@ -35,32 +35,36 @@ same-length c = search needs
 
 returns : tie.Need-returns
 returns c =
-    let e = sym (c .before .before .before .before .before .decode .ensures .0) ∙ c .before .before .decoded .given .1 in
-    (rw e, (rw e, c .before .before .before .before .before .decode .ensures .1))
+    let earlier = c .before .before .before .before .before in
+    let e = sym (earlier .decode .ensures .0) ∙ c .before .before .decoded .given .1 in
+    (rw e, (rw e, earlier .decode .ensures .1))
 
 same-length-2 : tie.Need-same-length-2
 same-length-2 c = search needs
 
 returns-2 : tie.Need-returns-2
 returns-2 c =
-    let e = sym (c .before .before .before .before .before .before .decode .ensures .0) ∙ c .before .before .before .decoded2 .given .1 in
-    (rw e (c .reject .ensures .0), (rw e (c .reject .ensures .1), c .before .before .before .before .before .before .decode .ensures .1))
+    let earlier = c .before .before .before in
+    let e = sym (earlier .before .before .before .decode .ensures .0) ∙ earlier .decoded2 .given .1 in
+    (rw e (c .reject .ensures .0), (rw e (c .reject .ensures .1), earlier .before .before .before .decode .ensures .1))
 
 same-length-3 : tie.Need-same-length-3
 same-length-3 c = search needs
 
 returns-3 : tie.Need-returns-3
 returns-3 c =
-    let e = sym (c .before .before .before .before .before .before .decode .ensures .0) ∙ c .before .before .before .decoded3 .given .1 in
-    (rw e (c .refuse .ensures .0), (rw e (c .refuse .ensures .1), c .before .before .before .before .before .before .decode .ensures .1))
+    let earlier = c .before .before .before in
+    let e = sym (earlier .before .before .before .decode .ensures .0) ∙ earlier .decoded3 .given .1 in
+    (rw e (c .refuse .ensures .0), (rw e (c .refuse .ensures .1), earlier .before .before .before .decode .ensures .1))
 
 same-length-4 : tie.Need-same-length-4
 same-length-4 c = search needs
 
 returns-4 : tie.Need-returns-4
 returns-4 c =
-    let e = sym (c .before .before .before .before .decode .ensures .0) ∙ c .before .enum-told .given .1 in
-    (rw e, (rw e, c .before .before .before .before .decode .ensures .1))
+    let earlier = c .before .before .before .before in
+    let e = sym (earlier .decode .ensures .0) ∙ c .before .enum-told .given .1 in
+    (rw e, (rw e, earlier .decode .ensures .1))
 
 pub dookerand-decode-spec : {M : Type 1} → statement M
 dookerand-decode-spec =

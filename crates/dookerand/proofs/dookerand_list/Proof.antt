@@ -29,16 +29,18 @@ same-length c = search needs
 
 returns : tie.Need-returns
 returns c =
-    let e = sym (c .before .before .before .before .before .before .before .list .ensures .0) ∙ c .before .before .before .listed .given .1 in
-    (rw e, (rw (e, c .before .full-number .ensures), c .before .before .before .before .before .before .before .list .ensures .1))
+    let earlier = c .before .before .before .before .before .before .before in
+    let e = sym (earlier .list .ensures .0) ∙ c .before .before .before .listed .given .1 in
+    (rw e, (rw (e, c .before .full-number .ensures), earlier .list .ensures .1))
 
 same-length-2 : tie.Need-same-length-2
 same-length-2 c = search needs
 
 returns-2 : tie.Need-returns-2
 returns-2 c =
-    let e = sym (c .before .before .before .before .before .before .before .list .ensures .0) ∙ c .before .before .before .listed2 .given .1 in
-    (rw e (c .reject .ensures .0), (rw e (c .reject .ensures .1), c .before .before .before .before .before .before .before .list .ensures .1))
+    let earlier = c .before .before .before .before .before .before .before in
+    let e = sym (earlier .list .ensures .0) ∙ c .before .before .before .listed2 .given .1 in
+    (rw e (c .reject .ensures .0), (rw e (c .reject .ensures .1), earlier .list .ensures .1))
 
 pub dookerand-list-spec : {M : Type 1} → statement M
 dookerand-list-spec =

@@ -38,40 +38,45 @@ same-length c = search needs
 
 returns : tie.Need-returns
 returns c =
-    let e = sym (c .before .before .before .before .before .before .decode-text .ensures .0) ∙ c .before .before .texted .given .1 in
-    (rw e, (rw e, c .before .before .before .before .before .before .decode-text .ensures .1))
+    let earlier = c .before .before .before .before .before .before in
+    let e = sym (earlier .decode-text .ensures .0) ∙ c .before .before .texted .given .1 in
+    (rw e, (rw e, earlier .decode-text .ensures .1))
 
 same-length-2 : tie.Need-same-length-2
 same-length-2 c = search needs
 
 returns-2 : tie.Need-returns-2
 returns-2 c =
-    let e = sym (c .before .before .before .before .before .before .before .decode-text .ensures .0) ∙ c .before .before .before .texted2 .given .1 in
-    (rw e (c .reject .ensures .0), (rw e (c .reject .ensures .1), c .before .before .before .before .before .before .before .decode-text .ensures .1))
+    let earlier = c .before .before .before .before .before .before .before in
+    let e = sym (earlier .decode-text .ensures .0) ∙ c .before .before .before .texted2 .given .1 in
+    (rw e (c .reject .ensures .0), (rw e (c .reject .ensures .1), earlier .decode-text .ensures .1))
 
 same-length-3 : tie.Need-same-length-3
 same-length-3 c = search needs
 
 returns-3 : tie.Need-returns-3
 returns-3 c =
-    let e = sym (c .before .before .before .before .before .before .before .decode-text .ensures .0) ∙ c .before .before .before .texted3 .given .1 in
-    (rw e (c .refuse .ensures .0), (rw e (c .refuse .ensures .1), c .before .before .before .before .before .before .before .decode-text .ensures .1))
+    let earlier = c .before .before .before .before .before .before .before in
+    let e = sym (earlier .decode-text .ensures .0) ∙ c .before .before .before .texted3 .given .1 in
+    (rw e (c .refuse .ensures .0), (rw e (c .refuse .ensures .1), earlier .decode-text .ensures .1))
 
 same-length-4 : tie.Need-same-length-4
 same-length-4 c = search needs
 
 returns-4 : tie.Need-returns-4
 returns-4 c =
-    let e = sym (c .before .before .before .before .before .decode-text .ensures .0) ∙ c .before .enum-told .given .1 in
-    (rw e, (rw e, c .before .before .before .before .before .decode-text .ensures .1))
+    let earlier = c .before .before .before .before .before in
+    let e = sym (earlier .decode-text .ensures .0) ∙ c .before .enum-told .given .1 in
+    (rw e, (rw e, earlier .decode-text .ensures .1))
 
 same-length-5 : tie.Need-same-length-5
 same-length-5 c = search needs
 
 returns-5 : tie.Need-returns-5
 returns-5 c =
-    let e = sym (c .before .before .before .before .before .decode-text .ensures .0) ∙ c .before .enum-told2 .given .1 in
-    (rw e, (rw e, c .before .before .before .before .before .decode-text .ensures .1))
+    let earlier = c .before .before .before .before .before in
+    let e = sym (earlier .decode-text .ensures .0) ∙ c .before .enum-told2 .given .1 in
+    (rw e, (rw e, earlier .decode-text .ensures .1))
 
 pub dookerand-text-spec : {M : Type 1} → statement M
 dookerand-text-spec =

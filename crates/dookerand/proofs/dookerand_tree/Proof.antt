@@ -41,23 +41,27 @@ returns c =
 
 returns-2 : tie.Need-returns-2
 returns-2 c =
-    let e = c .before .before .answer .given .1 in
-    (c .before .before .before .before .tree-check .result, c .before .before .before .before .tree-check .ensures, rw e, rw e)
+    let earlier = c .before .before in
+    let e = earlier .answer .given .1 in
+    (earlier .before .before .tree-check .result, earlier .before .before .tree-check .ensures, rw e, rw e)
 
 returns-3 : tie.Need-returns-3
 returns-3 c =
-    let e = c .before .before .before .answer2 .given .1 in
-    (c .before .before .before .before .before .tree-check .result, c .before .before .before .before .before .tree-check .ensures, rw e (c .reject .ensures .0), rw e (c .reject .ensures .1))
+    let earlier = c .before .before .before in
+    let e = earlier .answer2 .given .1 in
+    (earlier .before .before .tree-check .result, earlier .before .before .tree-check .ensures, rw e (c .reject .ensures .0), rw e (c .reject .ensures .1))
 
 returns-4 : tie.Need-returns-4
 returns-4 c =
-    let e = c .before .before .answer3 .given .1 in
-    (c .before .before .before .before .tree-check .result, c .before .before .before .before .tree-check .ensures, rw e, rw e)
+    let earlier = c .before .before in
+    let e = earlier .answer3 .given .1 in
+    (earlier .before .before .tree-check .result, earlier .before .before .tree-check .ensures, rw e, rw e)
 
 returns-5 : tie.Need-returns-5
 returns-5 c =
-    let e = c .before .before .answer4 .given .1 in
-    (c .before .before .before .before .tree-check .result, c .before .before .before .before .tree-check .ensures, rw e, rw e)
+    let earlier = c .before .before in
+    let e = earlier .answer4 .given .1 in
+    (earlier .before .before .tree-check .result, earlier .before .before .tree-check .ensures, rw e, rw e)
 
 pub dookerand-tree-spec : {M : Type 1} → statement M
 dookerand-tree-spec =

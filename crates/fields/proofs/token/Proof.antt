@@ -30,10 +30,11 @@ byte-requires c κs = omega arith
 
 v-small : (c : lts.After-byte (byte-reads.Asked, byte-reads.Learnt) reads.Pre reads.Post Inv-loop μ-loop) → c .before .before .loop .v < 2 ^ 32
 v-small c =
-    let s = c .before .before .before .before in
-    rw (c .before .before .loop .inv .1)
+    let earlier = c .before .before in
+    let s = earlier .before .before in
+    rw (earlier .loop .inv .1)
     (number-narrow (tokenByte (s .args .field) (s .args .code .now))
-    (token-byte (s .args .field) (s .args .code .now) (λ i. omega (arith, c .before .before .before .shared-slice-known .given i))) _ _ (omega arith))
+    (token-byte (s .args .field) (s .args .code .now) (λ i. omega (arith, earlier .before .shared-slice-known .given i))) _ _ (omega arith))
 
 mul-v : tie.Need-mul-v Inv-loop μ-loop
 mul-v c = omega (arith, v-small c)

@@ -23,23 +23,25 @@ cut-requires c κs = search needs
 
 returns : tie.Need-returns
 returns c =
-    let s = c .before .before .before .before .before .before .before in
+    let earlier = c .before .before .before .before .before .before in
+    let s = earlier .before in
     let f = s .args .field in
     let code = s .args .code .now in
     rw (c .cut .ensures, c .before .token .ensures, ← from-code f code (s .args .context) (c .before .before .if1 .taken))
-    (cut-is-value f code (λ i. omega (arith, c .before .before .before .before .before .before .shared-slice-known .given i)) (s .args .context) (s .pre .0))
+    (cut-is-value f code (λ i. omega (arith, earlier .shared-slice-known .given i)) (s .args .context) (s .pre .0))
 
 cut-requires-2 : tie.Need-cut-requires-2
 cut-requires-2 c κs = search needs
 
 returns-2 : tie.Need-returns-2
 returns-2 c =
-    let s = c .before .before .before .before .before .before in
+    let earlier = c .before .before .before .before .before in
+    let s = earlier .before in
     let f = s .args .field in
     let code = s .args .code .now in
     c .cut2 .ensures
     ∙ rw (from-context f code (s .args .context) (c .before .if1 .left)) at
-    (cut-is-value f code (λ i. omega (arith, c .before .before .before .before .before .shared-slice-known .given i)) (s .args .context) (s .pre .0))
+    (cut-is-value f code (λ i. omega (arith, earlier .shared-slice-known .given i)) (s .args .context) (s .pre .0))
 
 pub value-spec : {M : Type 1} → statement M
 value-spec =

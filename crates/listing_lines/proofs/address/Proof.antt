@@ -32,7 +32,10 @@ digit-requires-8 c κs = search needs
 
 returns : tie.Need-returns
 unfolding hexDigits
-returns c = rw (c .before .before .before .before .before .before .before .digit .ensures, c .before .before .before .before .before .before .digit2 .ensures, c .before .before .before .before .before .digit3 .ensures, c .before .before .before .before .digit4 .ensures, c .before .before .before .digit5 .ensures, c .before .before .digit6 .ensures, c .before .digit7 .ensures, c .digit8 .ensures)
+returns c =
+    let earlier = c .before .before .before in
+    let earliest = earlier .before .before in
+    rw (earliest .before .before .digit .ensures, earliest .before .digit2 .ensures, earliest .digit3 .ensures, earlier .before .digit4 .ensures, earlier .digit5 .ensures, c .before .before .digit6 .ensures, c .before .digit7 .ensures, c .digit8 .ensures)
 
 pub address-spec : {M : Type 1} → statement M
 address-spec =

@@ -28,8 +28,9 @@ enum-known-put c = search needs
 
 add-result : tie.Need-add-result
 add-result c =
-    let start = c .before .before .before .before .before .before .before .before in
-    omega (arith, number-count (start .args .at) (start .args .n) (start .args .out .now) _ _ _ (start .pre) refl (c .before .before .before .before .before .put-decimal .ensures) _ (c .before .put .given .1), digits-length 10 (start .args .n))
+    let earlier = c .before .before .before .before .before in
+    let start = earlier .before .before .before in
+    omega (arith, number-count (start .args .at) (start .args .n) (start .args .out .now) _ _ _ (start .pre) refl (earlier .put-decimal .ensures) _ (c .before .put .given .1), digits-length 10 (start .args .n))
 
 enum-told : tie.Need-enum-told
 enum-told c = search needs
@@ -39,10 +40,11 @@ same-length c = search needs
 
 returns : tie.Need-returns
 returns c =
-    let start = c .before .before .before .before .before .before .before .before in
+    let earlier = c .before .before .before .before .before in
+    let start = earlier .before .before .before in
     record {
-      size = ap (λ (k : ℕ). start .args .at + k) (number-count (start .args .at) (start .args .n) (start .args .out .now) _ _ _ (start .pre) refl (c .before .before .before .before .before .put-decimal .ensures) _ (c .before .put .given .1));
-      holds = number-put (start .args .at) (start .args .n) (start .args .out .now) _ _ _ (start .pre) refl (c .before .before .before .before .before .put-decimal .ensures);
+      size = ap (λ (k : ℕ). start .args .at + k) (number-count (start .args .at) (start .args .n) (start .args .out .now) _ _ _ (start .pre) refl (earlier .put-decimal .ensures) _ (c .before .put .given .1));
+      holds = number-put (start .args .at) (start .args .n) (start .args .out .now) _ _ _ (start .pre) refl (earlier .put-decimal .ensures);
     }
 
 same-length-2 : tie.Need-same-length-2
@@ -50,8 +52,9 @@ same-length-2 c = search needs
 
 returns-2 : tie.Need-returns-2
 returns-2 c =
-    let start = c .before .before .before .before .before .before .before in
-    absurd (number-fits (start .args .at) (start .args .n) (start .args .out .now) _ _ _ (start .pre) refl (c .before .before .before .before .put-decimal .ensures) (c .enum-told .given .1))
+    let earlier = c .before .before .before .before in
+    let start = earlier .before .before .before in
+    absurd (number-fits (start .args .at) (start .args .n) (start .args .out .now) _ _ _ (start .pre) refl (earlier .put-decimal .ensures) (c .enum-told .given .1))
 
 pub append-number-spec : {M : Type 1} → statement M
 append-number-spec =

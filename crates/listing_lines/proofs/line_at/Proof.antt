@@ -35,10 +35,11 @@ put-line-requires c κs =
     omega (arith, ap length (put-taken _ _ _ _ shown), shown .fits)
 
 returns : tie.Need-returns
-returns c = (
-  line-made _ _ _ _ _ _ _ _ (put-taken _ _ _ _ (c .before .before .before .before .before .show .ensures .text)) (c .before .put-line .ensures) (c .before .before .before .before .before .show .ensures .next),
-  c .before .before .before .before .before .show .ensures .told,
-)
+returns c =
+    let earlier = c .before .before .before .before .before in (
+      line-made _ _ _ _ _ _ _ _ (put-taken _ _ _ _ (earlier .show .ensures .text)) (c .before .put-line .ensures) (earlier .show .ensures .next),
+      earlier .show .ensures .told,
+    )
 
 pub line-at-spec : {M : Type 1} → statement M
 line-at-spec =

@@ -36,12 +36,14 @@ same-length c = search needs
 returns : tie.Need-returns
 unfolding lineText
 returns c =
-    let start = c .before .before .before .before .before .before .before .before .before .before .before .before .before .before .before .before .before in
-    let head = c .before .before .before .before .before .before .before .before .before .before .before .before .before .before .address .result in
-    let long : length head ≡ 10 = ap length (c .before .before .before .before .before .before .before .before .before .before .before .before .before .before .address .ensures) ∙ address-long (start .args .at) in
-    rw (c .before .before .before .before .before .before .before .before .before .before .before .before .before .before .address .ensures) at
+    let earlier = c .before .before .before .before .before .before .before .before .before .before .before in
+    let earliest = earlier .before .before .before in
+    let start = earliest .before .before .before in
+    let head = earliest .address .result in
+    let long : length head ≡ 10 = ap length (earliest .address .ensures) ∙ address-long (start .args .at) in
+    rw (earliest .address .ensures) at
     (put-more _ _ _ _ _ _ _
-    (put-more _ _ _ _ _ _ _ (put-first head (start .args .line .now) _ _ (omega arith) (c .before .before .before .before .before .before .before .before .before .before .before .append .ensures)) (omega arith) (c .before .before .before .before .before .before .before .append2 .ensures))
+    (put-more _ _ _ _ _ _ _ (put-first head (start .args .line .now) _ _ (omega arith) (earlier .append .ensures)) (omega arith) (c .before .before .before .before .before .before .before .append2 .ensures))
     (omega (arith, length-append head (start .args .shown .now))) (c .before .before .append3 .ensures))
 
 pub put-line-spec : {M : Type 1} → statement M

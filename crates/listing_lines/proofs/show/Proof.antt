@@ -11,7 +11,9 @@ use Rattle.listing_lines.proofs.show_text.Reads as show-text-reads
 use Rattle.walking.proofs.decode_at.Reads as decode-at-reads
 
 decode-at-requires : tie.Need-decode-at-requires
-decode-at-requires c κs = (c .before .before .before .before .pre .0 .fixed, omega (arith, c .before .before .before .before .pre .0 .inside))
+decode-at-requires c κs =
+    let earlier = c .before .before .before .before in
+    (earlier .pre .0 .fixed, omega (arith, earlier .pre .0 .inside))
 
 enum-known-walked : tie.Need-enum-known-walked
 enum-known-walked c = search needs
@@ -30,21 +32,27 @@ slice-aggregate-show-text c = search needs
 
 show-text-requires : tie.Need-show-text-requires
 show-text-requires c κs =
-    let start = c .before .before .before .before .before .before .before .before .before .before .before .before in
-    let told = c .before .before .before .before .before .before .before .decode-at .ensures .1 in
-    ((fixed-there _ _ _ 0 _ (start .pre .0) _ told, start .pre .1), rows-there _ _ _ _ _ (start .pre .0) _ told _ (c .before .before .before .before .before .before .before .decode-at .ensures .0) _ _ (c .before .before .before .before .before .walked2 .given .1))
+    let earlier = c .before .before .before .before .before in
+    let earliest = earlier .before .before in
+    let start = earliest .before .before .before .before .before in
+    let told = earliest .decode-at .ensures .1 in
+    ((fixed-there _ _ _ 0 _ (start .pre .0) _ told, start .pre .1), rows-there _ _ _ _ _ (start .pre .0) _ told _ (earliest .decode-at .ensures .0) _ _ (earlier .walked2 .given .1))
 
 add-t26 : tie.Need-add-t26
 add-t26 c =
-    let start = c .before .before .before .before .before .before .before .before .before .before .before .before .before .before .before in
-    omega (arith, next-fits _ _ _ _ _ (start .pre .0) _ (c .before .before .before .before .before .before .before .before .before .before .decode-at .ensures .1) _ (c .before .before .before .before .before .before .before .before .before .before .decode-at .ensures .0) _ _ (c .before .before .before .before .before .before .before .before .walked2 .given .1))
+    let earlier = c .before .before .before .before .before .before .before .before in
+    let earliest = earlier .before .before in
+    let start = earliest .before .before .before .before .before in
+    omega (arith, next-fits _ _ _ _ _ (start .pre .0) _ (earliest .decode-at .ensures .1) _ (earliest .decode-at .ensures .0) _ _ (earlier .walked2 .given .1))
 
 same-length : tie.Need-same-length
 same-length c = search needs
 
 returns : tie.Need-returns
 returns c =
-    shows-refusal _ _ _ _ _ (c .before .before .before .before .before .before .before .before .before .before .before .before .before .pre .0) _ (c .before .before .before .before .before .before .before .before .decode-at .ensures .1) _ (c .before .before .before .before .before .before .before .before .decode-at .ensures .0) _ (c .before .before .before .before .before .before .walked .given .1) _ _ _
+    let earlier = c .before .before .before .before .before .before in
+    let earliest = earlier .before .before in
+    shows-refusal _ _ _ _ _ (earliest .before .before .before .before .before .pre .0) _ (earliest .decode-at .ensures .1) _ (earliest .decode-at .ensures .0) _ (earlier .walked .given .1) _ _ _
     (c .before .before .show-refusal .ensures .0) (c .before .before .show-refusal .ensures .1)
 
 same-length-2 : tie.Need-same-length-2
@@ -52,7 +60,9 @@ same-length-2 c = search needs
 
 returns-2 : tie.Need-returns-2
 returns-2 c =
-    shows-text _ _ _ _ _ (c .before .before .before .before .before .before .before .before .before .before .before .before .before .before .before .pre .0) _ (c .before .before .before .before .before .before .before .before .before .before .decode-at .ensures .1) _ (c .before .before .before .before .before .before .before .before .before .before .decode-at .ensures .0) _ _ (c .before .before .before .before .before .before .before .before .walked2 .given .1) _ _ _
+    let earlier = c .before .before .before .before .before .before .before .before in
+    let earliest = earlier .before .before in
+    shows-text _ _ _ _ _ (earliest .before .before .before .before .before .pre .0) _ (earliest .decode-at .ensures .1) _ (earliest .decode-at .ensures .0) _ _ (earlier .walked2 .given .1) _ _ _
     (c .before .before .show-text .ensures)
 
 pub show-spec : {M : Type 1} → statement M

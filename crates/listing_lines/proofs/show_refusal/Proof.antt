@@ -26,7 +26,8 @@ same-length c = search needs
 
 returns : tie.Need-returns
 returns c =
-    let e = sym (c .before .before .before .before .before .before .is-short .ensures) ∙ c .before .before .before .before .before .if1 .taken in
+    let earlier = c .before .before .before .before .before in
+    let e = sym (earlier .before .is-short .ensures) ∙ earlier .if1 .taken in
     (rw e (put-first _ _ _ _ (omega arith) (c .before .before .append .ensures)), rw e)
 
 byte-text-requires : tie.Need-byte-text-requires
@@ -46,8 +47,9 @@ same-length-2 c = search needs
 
 returns-2 : tie.Need-returns-2
 returns-2 c =
-    let e = sym (c .before .before .before .before .before .before .before .is-short .ensures) ∙ c .before .before .before .before .before .before .if1 .left in
-    (rw (e, ← c .before .before .before .before .before .byte-text .ensures) (put-first _ _ _ _ (omega (arith, ap length (c .before .before .before .before .before .byte-text .ensures) ∙ byte-long (c .before .before .before .before .before .before .before .before .before .args .byte))) (c .before .before .append2 .ensures)), rw e)
+    let earlier = c .before .before .before .before .before in
+    let e = sym (earlier .before .before .is-short .ensures) ∙ earlier .before .if1 .left in
+    (rw (e, ← earlier .byte-text .ensures) (put-first _ _ _ _ (omega (arith, ap length (earlier .byte-text .ensures) ∙ byte-long (earlier .before .before .before .before .args .byte))) (c .before .before .append2 .ensures)), rw e)
 
 pub show-refusal-spec : {M : Type 1} → statement M
 show-refusal-spec =

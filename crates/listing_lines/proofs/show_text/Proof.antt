@@ -31,19 +31,26 @@ same-length : tie.Need-same-length
 same-length c = search needs
 
 returns : tie.Need-returns
-returns c = fitting-written (wholeText (c .before .before .before .before .before .before .before .before .before .args .desc .now) (c .before .before .before .before .before .before .before .before .before .args .fixed .now) (c .before .before .before .before .before .before .before .before .before .args .rows .now)) (c .before .before .before .before .before .before .before .before .before .args .out .now) _ _ _ (c .before .before .before .before .before .before .before .before .before .pre .0 .1) (c .before .before .before .before .before .print-text .ensures .0) (c .before .before .before .before .before .print-text .ensures .1) (c .before .line .given .1)
+returns c =
+    let earlier = c .before .before .before .before .before .before .before .before .before in
+    fitting-written (wholeText (earlier .args .desc .now) (earlier .args .fixed .now) (earlier .args .rows .now)) (earlier .args .out .now) _ _ _ (earlier .pre .0 .1) (c .before .before .before .before .before .print-text .ensures .0) (c .before .before .before .before .before .print-text .ensures .1) (c .before .line .given .1)
 
 same-length-2 : tie.Need-same-length-2
 same-length-2 c = search needs
 
 returns-2 : tie.Need-returns-2
-returns-2 c = fitting-long (wholeText (c .before .before .before .before .before .before .before .before .before .before .before .before .before .args .desc .now) (c .before .before .before .before .before .before .before .before .before .before .before .before .before .args .fixed .now) (c .before .before .before .before .before .before .before .before .before .before .before .before .before .args .rows .now)) (c .before .before .before .before .before .before .before .before .before .before .before .before .before .args .out .now) _ _ _ _ (c .before .before .before .before .before .before .before .before .before .before .before .before .before .pre .0 .1) (c .before .before .before .before .before .before .before .before .before .print-text .ensures .0) (c .before .before .before .before .before .before .before .before .before .print-text .ensures .1) (c .before .before .before .before .before .enum-told .given .1) (c .before .before .append .ensures)
+returns-2 c =
+    let earlier = c .before .before .before .before .before .before .before .before .before in
+    let earliest = earlier .before .before .before .before in
+    fitting-long (wholeText (earliest .args .desc .now) (earliest .args .fixed .now) (earliest .args .rows .now)) (earliest .args .out .now) _ _ _ _ (earliest .pre .0 .1) (earlier .print-text .ensures .0) (earlier .print-text .ensures .1) (c .before .before .before .before .before .enum-told .given .1) (c .before .before .append .ensures)
 
 same-length-3 : tie.Need-same-length-3
 same-length-3 c = search needs
 
 returns-3 : tie.Need-returns-3
-returns-3 c = absurd (fitting-never (wholeText (c .before .before .before .before .before .before .before .before .args .desc .now) (c .before .before .before .before .before .before .before .before .args .fixed .now) (c .before .before .before .before .before .before .before .before .args .rows .now)) (c .before .before .before .before .before .before .before .before .args .out .now) _ (c .before .before .before .before .before .before .before .before .pre .0 .1) (c .before .before .before .before .print-text .ensures .0) (c .enum-told2 .given .1))
+returns-3 c =
+    let earlier = c .before .before .before .before .before .before .before .before in
+    absurd (fitting-never (wholeText (earlier .args .desc .now) (earlier .args .fixed .now) (earlier .args .rows .now)) (earlier .args .out .now) _ (earlier .pre .0 .1) (c .before .before .before .before .print-text .ensures .0) (c .enum-told2 .given .1))
 
 pub show-text-spec : {M : Type 1} → statement M
 show-text-spec =

@@ -45,16 +45,22 @@ list-input-requires : tie.Need-list-input-requires Inv-loop μ-loop
 list-input-requires c κs = search needs
 
 array-share-prefix-text : tie.Need-array-share-prefix-text Inv-loop μ-loop
-array-share-prefix-text c = bytes-there _ (c .before .before .before .before .loop .part .next) (c .before .before .before .before .loop .text) _ (c .before .list-input .ensures .0) _ (c .before .list-input .ensures .1)
+array-share-prefix-text c =
+    let earlier = c .before .before .before .before in
+    bytes-there _ (earlier .loop .part .next) (earlier .loop .text) _ (c .before .list-input .ensures .0) _ (c .before .list-input .ensures .1)
 
 slice-aggregate-write-all : tie.Need-slice-aggregate-write-all Inv-loop μ-loop
-slice-aggregate-write-all c = sym (length-take-le _ _ (bytes-there _ (c .before .before .before .before .before .loop .part .next) (c .before .before .before .before .before .loop .text) _ (c .before .before .list-input .ensures .0) _ (c .before .before .list-input .ensures .1)))
+slice-aggregate-write-all c =
+    let earlier = c .before .before in
+    sym (length-take-le _ _ (bytes-there _ (earlier .before .before .before .loop .part .next) (earlier .before .before .before .loop .text) _ (earlier .list-input .ensures .0) _ (earlier .list-input .ensures .1)))
 
 write-all-requires : tie.Need-write-all-requires Inv-loop μ-loop
 write-all-requires c κs = search needs
 
 loop-less : tie.Need-loop-less Inv-loop μ-loop
-loop-less c = falls _ (c .before .before .before .before .before .before .loop .part .next) (c .before .before .before .before .before .before .loop .text) _ (c .before .before .before .list-input .ensures .0) (c .before .before .before .before .before .before .loop .part) (c .before .before .before .before .before .loop-test .taken) refl (omega (arith, c .before .before .before .before .before .before .loop .inv))
+loop-less c =
+    let earlier = c .before .before .before .before .before in
+    falls _ (earlier .before .loop .part .next) (earlier .before .loop .text) _ (c .before .before .before .list-input .ensures .0) (earlier .before .loop .part) (earlier .loop-test .taken) refl (omega (arith, earlier .before .loop .inv))
 
 loop-again : tie.Need-loop-again Inv-loop μ-loop
 loop-again c = c .before .before .before .list-input .kept .1 .1 .0 ∙ c .before .before .before .before .before .before .loop .inv

@@ -29,8 +29,9 @@ same-length c = search needs
 returns : tie.Need-returns
 unfolding listOf listAfter
 returns c =
-    let e = sym (c .before .before .before .before .before .before .before .accept .ensures) ∙ c .before .before .before .before .before .acceptance .given .1 in
-    (rw e (ap Done (c .before .before .list-in .ensures .answer)), rw e (c .before .before .list-in .ensures .text))
+    let earlier = c .before .before in
+    let e = sym (earlier .before .before .before .before .before .accept .ensures) ∙ earlier .before .before .before .acceptance .given .1 in
+    (rw e (ap Done (earlier .list-in .ensures .answer)), rw e (earlier .list-in .ensures .text))
 
 returns-2 : tie.Need-returns-2
 unfolding listOf listAfter

@@ -27,7 +27,10 @@ same-length : tie.Need-same-length
 same-length c = search needs
 
 returns : tie.Need-returns
-returns c = fault-full _ _ _ _ (c .before .before .before .before .before .before .before .before .fault-line .ensures) (c .before .before .before .before .before .before .before .before .before .if1 .taken) _ _ (c .before .before .before .before .put-bytes .ensures) (c .enum-told .given .1)
+returns c =
+    let earlier = c .before .before .before .before in
+    let earliest = earlier .before .before .before .before in
+    fault-full _ _ _ _ (earliest .fault-line .ensures) (earliest .before .if1 .taken) _ _ (earlier .put-bytes .ensures) (c .enum-told .given .1)
 
 enum-known-put : tie.Need-enum-known-put
 enum-known-put c = search needs
@@ -36,7 +39,10 @@ same-length-2 : tie.Need-same-length-2
 same-length-2 c = search needs
 
 returns-2 : tie.Need-returns-2
-returns-2 c = fault-written _ _ _ _ (c .before .before .before .before .before .before .before .before .before .fault-line .ensures) (c .before .before .before .before .before .before .before .before .before .before .if1 .taken) _ _ (c .before .before .before .before .before .put-bytes .ensures) _ (c .before .put .given .1)
+returns-2 c =
+    let earlier = c .before .before .before .before .before in
+    let earliest = earlier .before .before .before .before in
+    fault-written _ _ _ _ (earliest .fault-line .ensures) (earliest .before .if1 .taken) _ _ (earlier .put-bytes .ensures) _ (c .before .put .given .1)
 
 returns-3 : tie.Need-returns-3
 returns-3 c = fault-behind _ _ _ (c .if1 .left)

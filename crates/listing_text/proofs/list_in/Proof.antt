@@ -25,7 +25,9 @@ abbrev μ-loop : tie.MeasureT-loop
 
 -- the numbers are the description's
 found : (c : tie.After-fill Inv-loop μ-loop) → described (c .before .before .before .before .args .desc .now) (c .fill .result) ≡ description (c .before .before .before .before .args .desc .now) (c .before .before .before .before .args .layout)
-found c = ap (described (c .before .before .before .before .args .desc .now)) (c .fill .ensures) ∙ setting-of (c .before .before .before .before .args .desc .now) (c .before .before .before .before .args .layout) true
+found c =
+    let earlier = c .before .before .before .before in
+    ap (described (earlier .args .desc .now)) (c .fill .ensures) ∙ setting-of (earlier .args .desc .now) (earlier .args .layout) true
 
 fill-requires : tie.Need-fill-requires Inv-loop μ-loop
 fill-requires c κs = search needs
@@ -40,7 +42,9 @@ array-share-prefix-text : tie.Need-array-share-prefix-text Inv-loop μ-loop
 array-share-prefix-text c = size-fits _ _ _ _ _ _ _ _ _ _ _ (c .before .before .before .before .loop .inv) (c .before .before .before .loop-test .taken) _ (c .before .line-at .ensures .0)
 
 slice-aggregate-put-bytes : tie.Need-slice-aggregate-put-bytes Inv-loop μ-loop
-slice-aggregate-put-bytes c = prefix-long _ _ _ _ _ _ _ _ _ _ _ (c .before .before .before .before .before .loop .inv) (c .before .before .before .before .loop-test .taken) _ (c .before .before .line-at .ensures .0)
+slice-aggregate-put-bytes c =
+    let earlier = c .before .before in
+    prefix-long _ _ _ _ _ _ _ _ _ _ _ (earlier .before .before .before .loop .inv) (earlier .before .before .loop-test .taken) _ (earlier .line-at .ensures .0)
 
 sub-put-bytes : tie.Need-sub-put-bytes Inv-loop μ-loop
 sub-put-bytes c = search needs
@@ -61,28 +65,38 @@ same-length : tie.Need-same-length Inv-loop μ-loop
 same-length c = search needs
 
 returns : tie.Need-returns Inv-loop μ-loop
-returns c = rw (found (c .before .before .before .before .before .before .before .before .before .before .before .before)) at
-    (full-turn _ _ _ _ _ _ _ _ _ _ _ (c .before .before .before .before .before .before .before .before .before .before .before .loop .inv) (c .before .before .before .before .before .before .before .before .before .before .loop-test .taken) _ (c .before .before .before .before .before .before .before .before .line-at .ensures .0) _ _ _ refl (c .before .before .before .before .put-bytes .ensures) (c .enum-told .given .1))
+returns c =
+    let earlier = c .before .before .before .before .before .before .before .before in
+    let earliest = earlier .before .before in
+    rw (found (earliest .before .before)) at
+    (full-turn _ _ _ _ _ _ _ _ _ _ _ (earliest .before .loop .inv) (earliest .loop-test .taken) _ (earlier .line-at .ensures .0) _ _ _ refl (c .before .before .before .before .put-bytes .ensures) (c .enum-told .given .1))
 
 enum-known-put : tie.Need-enum-known-put Inv-loop μ-loop
 enum-known-put c = search needs
 
 add-bytes : tie.Need-add-bytes Inv-loop μ-loop
 add-bytes c =
-    omega (arith, count-fits _ _ _ _ _ _ _ _ _ _ _ (c .before .before .before .before .before .before .before .before .before .before .before .before .loop .inv) (c .before .before .before .before .before .before .before .before .before .before .before .loop-test .taken) _ (c .before .before .before .before .before .before .before .before .before .line-at .ensures .0) _ _ _ refl (c .before .before .before .before .before .put-bytes .ensures) _ (c .before .put .given .1), c .before .before .before .before .before .before .before .before .before .before .before .before .before .before .before .before .before .good .1 .1 .1 .1 .1 .0)
+    let earlier = c .before .before .before .before .before .before .before .before .before in
+    let earliest = earlier .before .before in
+    omega (arith, count-fits _ _ _ _ _ _ _ _ _ _ _ (earliest .before .loop .inv) (earliest .loop-test .taken) _ (earlier .line-at .ensures .0) _ _ _ refl (c .before .before .before .before .before .put-bytes .ensures) _ (c .before .put .given .1), earliest .before .before .before .before .before .before .good .1 .1 .1 .1 .1 .0)
 
 add-lines : tie.Need-add-lines Inv-loop μ-loop
 add-lines c =
-    omega (arith, lines-fit _ _ _ _ _ _ _ _ _ _ _ (c .before .before .before .before .before .before .before .before .before .before .before .before .loop .inv) (c .before .before .before .before .before .before .before .before .before .before .before .loop-test .taken) _ (c .before .before .before .before .before .before .before .before .before .line-at .ensures .0) _ _ _ refl (c .before .before .before .before .before .put-bytes .ensures) _ (c .before .put .given .1), c .before .before .before .before .before .before .before .before .before .before .before .before .before .before .before .before .before .good .1 .1 .1 .1 .1 .0)
+    let earlier = c .before .before .before .before .before .before .before .before .before in
+    let earliest = earlier .before .before in
+    omega (arith, lines-fit _ _ _ _ _ _ _ _ _ _ _ (earliest .before .loop .inv) (earliest .loop-test .taken) _ (earlier .line-at .ensures .0) _ _ _ refl (c .before .before .before .before .before .put-bytes .ensures) _ (c .before .put .given .1), earliest .before .before .before .before .before .before .good .1 .1 .1 .1 .1 .0)
 
 loop-less : tie.Need-loop-less Inv-loop μ-loop
 loop-less c =
-    omega (arith, moves _ _ _ _ _ _ _ _ _ _ _ (c .before .before .before .before .before .before .before .before .before .before .before .before .loop .inv) (c .before .before .before .before .before .before .before .before .before .before .before .loop-test .taken) _ (c .before .before .before .before .before .before .before .before .before .line-at .ensures .0) _ _ _ refl (c .before .before .before .before .before .put-bytes .ensures) _ (c .before .put .given .1), c .before .before .before .before .before .before .before .before .before .before .before .loop-test .taken)
+    let earlier = c .before .before .before .before .before .before .before .before .before in
+    let earliest = earlier .before .before in
+    omega (arith, moves _ _ _ _ _ _ _ _ _ _ _ (earliest .before .loop .inv) (earliest .loop-test .taken) _ (earlier .line-at .ensures .0) _ _ _ refl (c .before .before .before .before .before .put-bytes .ensures) _ (c .before .put .given .1), earliest .loop-test .taken)
 
 loop-again : tie.Need-loop-again Inv-loop μ-loop
 loop-again c =
-    next-turn _ _ _ _ _ _ _ _ _ _ _ (c .before .before .before .before .before .before .before .before .before .before .before .before .loop .inv) (c .before .before .before .before .before .before .before .before .before .before .before .loop-test .taken) _ (c .before .before .before .before .before .before .before .before .before .line-at .ensures .0) _ _ _ refl (c .before .before .before .before .before .put-bytes .ensures) _ (c .before .put .given .1)
-    _ (c .before .before .before .before .before .before .before .before .before .line-at .ensures .1) _ refl
+    let earlier = c .before .before .before .before .before .before .before .before .before in
+    next-turn _ _ _ _ _ _ _ _ _ _ _ (earlier .before .before .before .loop .inv) (earlier .before .before .loop-test .taken) _ (earlier .line-at .ensures .0) _ _ _ refl (c .before .before .before .before .before .put-bytes .ensures) _ (c .before .put .given .1)
+    _ (earlier .line-at .ensures .1) _ refl
 
 same-length-2 : tie.Need-same-length-2 Inv-loop μ-loop
 same-length-2 c = c .before .loop .inv .kept

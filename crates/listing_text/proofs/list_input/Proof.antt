@@ -57,11 +57,13 @@ same-length c = search needs
 returns : tie.Need-returns
 unfolding inputWindow
 returns c =
-    let start = c .before .before .before .before .before .before .before .before .before .before .before .before .before in
-    let split = c .before .before .before .before .before .before .before .before .before .before .take-apart .ensures in
+    let earlier = c .before .before .before .before .before in
+    let earliest = earlier .before .before .before .before .before in
+    let start = earliest .before .before .before in
+    let split = earliest .take-apart .ensures in
     let b = description-there (start .args .input .now) _ split in
     let s = code-there (start .args .input .now) _ split in
-    let e = rw b at (sym (c .before .before .before .before .before .before .before .accept .ensures) ∙ c .before .before .before .before .before .acceptance .given .1) in
+    let e = rw b at (sym (earlier .before .before .accept .ensures) ∙ earlier .acceptance .given .1) in
     let h = c .before .before .list-in .ensures in
     (rw e (rw (b, s) at (h .answer)), rw e (rw (b, s) at (h .text)))
 
@@ -71,9 +73,11 @@ same-length-2 c = search needs
 returns-2 : tie.Need-returns-2
 unfolding inputWindow
 returns-2 c =
-    let start = c .before .before .before .before .before .before .before .before .before .before .before .before .before in
-    let b = description-there (start .args .input .now) _ (c .before .before .before .before .before .before .before .before .before .before .take-apart .ensures) in
-    let e = rw b at (sym (c .before .before .before .before .before .before .before .accept .ensures) ∙ c .before .before .before .before .before .acceptance2 .given .1) in
+    let earlier = c .before .before .before .before .before in
+    let earliest = earlier .before .before .before .before .before in
+    let start = earliest .before .before .before in
+    let b = description-there (start .args .input .now) _ (earliest .take-apart .ensures) in
+    let e = rw b at (sym (earlier .before .before .accept .ensures) ∙ earlier .acceptance2 .given .1) in
     let h = c .before .before .list-fault .ensures in
     (rw e (h .answer), rw e (h .text))
 

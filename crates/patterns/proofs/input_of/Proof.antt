@@ -34,8 +34,9 @@ sub-t9 c = search needs
 
 returns-2 : tie.Need-returns-2
 returns-2 c =
-    rw (shifted (length (c .before .before .before .args .code .now)) (c .before .if1 .left), c .padded .ensures)
-    (few-input (c .before .before .before .args .code .now) (c .before .before .before .args .context) (c .before .if1 .left))
+    let earlier = c .before .before .before in
+    rw (shifted (length (earlier .args .code .now)) (c .before .if1 .left), c .padded .ensures)
+    (few-input (earlier .args .code .now) (earlier .args .context) (c .before .if1 .left))
 
 pub input-of-spec : {M : Type 1} → statement M
 input-of-spec =

@@ -7,7 +7,8 @@ use Rattle.patterns.proofs.overlaps.Lts as lts
 
 returns : tie.Need-returns
 returns c =
-    overlap-is (c .before .before .before .before .before .before .before .before .args .a) (c .before .before .before .before .before .before .before .before .args .b)
+    let earlier = c .before .before .before .before .before .before .before .before in
+    overlap-is (earlier .args .a) (earlier .args .b)
     (record { mask = search needs; value = search needs; contextmask = search needs; contextvalue = search needs })
     (record { mask = search needs; value = search needs; contextmask = search needs; contextvalue = search needs })
 

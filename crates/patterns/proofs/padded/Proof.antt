@@ -72,10 +72,12 @@ quad-requires c κs = omega (arith, c .before .before .loop .inv .1 .long)
 
 returns : tie.Need-returns Inv-loop μ-loop
 returns c =
-    let s : c .before .before .before .loop .i ≡ length (c .before .before .before .before .before .args .code .now) = omega arith in
+    let earlier = c .before .before .before in
+    let earliest = earlier .before .before in
+    let s : earlier .loop .i ≡ length (earliest .args .code .now) = omega arith in
     c .quad .ensures
-    ∙ quad-same (c .before .before .before .loop .eight) (c .before .before .before .before .before .args .code .now)
-    (copied-all (c .before .before .before .before .before .args .code .now) (c .before .before .before .loop .eight) (rw s at (c .before .before .before .loop .inv .1)))
+    ∙ quad-same (earlier .loop .eight) (earliest .args .code .now)
+    (copied-all (earliest .args .code .now) (earlier .loop .eight) (rw s at (earlier .loop .inv .1)))
 
 pub padded-spec : {M : Type 1} → statement M
 padded-spec =

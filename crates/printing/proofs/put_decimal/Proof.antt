@@ -32,9 +32,10 @@ same-length c = search needs
 
 returns : tie.Need-returns
 returns c =
-    let w = c .before .before .before .before .before .before .put-digits .ensures in
-    let text = c .before .before .before .before .before .before .put-digits .last .1 .1 .0 in
-    let at = c .before .before .before .before .before .before .put-digits .result in
+    let earlier = c .before .before .before .before .before .before in
+    let w = earlier .put-digits .ensures in
+    let text = earlier .put-digits .last .1 .1 .0 in
+    let at = earlier .put-digits .result in
     let part : take (23 - at) (drop at text) ≡ drop at text = take-all (23 - at) (drop at text) (omega (arith, length-drop at text, w .long)) in
     rw (part, w .is) at (c .before .before .put-bytes .ensures)
 

@@ -56,8 +56,9 @@ goes-on c e = c .if1 .left (c .before .quotient .ensures ∙ e)
 
 returns : tie.Need-returns Inv-loop μ-loop
 returns c =
-    let l = c .before .before .before .before .before .before .loop in
-    let s = c .before .before .before .before .before .before .before in
+    let earlier = c .before .before .before .before .before .before in
+    let l = earlier .loop in
+    let s = earlier .before in
     rw (digit-first (s .args .base) (l .rest) _ (s .pre .1) (sym (c .before .quotient .ensures) ∙ c .if1 .taken) ∙ l .inv .3) at
     (written (c .before))
 
@@ -68,8 +69,9 @@ loop-less c =
 
 loop-again : tie.Need-loop-again Inv-loop μ-loop
 loop-again c =
-    let l = c .before .before .before .before .before .before .loop in
-    let s = c .before .before .before .before .before .before .before in
+    let earlier = c .before .before .before .before .before .before in
+    let l = earlier .loop in
+    let s = earlier .before in
     let w = written (c .before) in
     let less : l .rest / s .args .base ≤ l .rest = div-le-self (l .rest) (s .args .base) in (
       w .long,

@@ -41,10 +41,11 @@ prefixed : (c : lts.After-put-prefix (magnitude-reads.Asked, magnitude-reads.Lea
     (prefixText (c .before .before .before .before .before .before .args .base)
     ++ digitsOf (c .before .before .before .before .before .before .args .base) (natAbs (c .before .before .before .before .before .before .args .value)))
 prefixed c =
+    let earlier = c .before .before in
     rw (
-      c .before .before .put-digits .ensures .is,
-      c .before .before .before .before .magnitude .ensures,
-      toZ-ofZ {w = w64} (c .before .before .before .before .before .before .fits .value),
+      earlier .put-digits .ensures .is,
+      earlier .before .before .magnitude .ensures,
+      toZ-ofZ {w = w64} (earlier .before .before .before .before .fits .value),
     ) at
     (c .put-prefix .ensures)
 

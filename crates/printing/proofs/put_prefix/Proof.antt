@@ -25,8 +25,9 @@ put-before-requires-2 c κs =
 
 returns-2 : tie.Need-returns-2
 returns-2 c =
-    rw (prefix-hex (c .before .before .before .before .before .args .base) (c .before .before .before .before .if1 .left))
-    (rw (c .before .before .put-before .ensures .is) at (c .put-before2 .ensures))
+    let earlier = c .before .before in
+    rw (prefix-hex (earlier .before .before .before .args .base) (earlier .before .before .if1 .left))
+    (rw (earlier .put-before .ensures .is) at (c .put-before2 .ensures))
 
 pub put-prefix-spec : {M : Type 1} → statement M
 put-prefix-spec = tie.close (tie.spec returns put-before-requires put-before-requires-2 returns-2)

@@ -13,26 +13,29 @@ operands-ok-requires c κs =
 
 pieces-ok-requires : tie.Need-pieces-ok-requires
 pieces-ok-requires c κs =
-    let s = c .before .before .before .before .before in
-    let e = sym (c .before .before .before .shape-ok .ensures) ∙ c .before .before .if1 .taken in
+    let earlier = c .before .before in
+    let s = earlier .before .before .before in
+    let e = sym (earlier .before .shape-ok .ensures) ∙ earlier .if1 .taken in
     (s .pre .marked .room, rw (operands-length, pieces-length) at (shape-holds _ _ _ e))
 
 returns : tie.Need-returns
 unfolding constructorOk
 returns c =
+    let earlier = c .before .before in
     rw (
-      ← c .before .before .before .before .before .before .pre .is,
-      sym (c .before .before .before .before .shape-ok .ensures) ∙ c .before .before .before .if1 .taken,
-      sym (c .before .before .operands-ok .ensures) ∙ c .before .if2 .taken,
+      ← earlier .before .before .before .before .pre .is,
+      sym (earlier .before .before .shape-ok .ensures) ∙ earlier .before .if1 .taken,
+      sym (earlier .operands-ok .ensures) ∙ c .before .if2 .taken,
     )
     (c .pieces-ok .ensures)
 
 returns-2 : tie.Need-returns-2
 unfolding constructorOk
 returns-2 c =
+    let earlier = c .before .before in
     rw (
-      ← c .before .before .before .before .before .pre .is,
-      sym (c .before .before .before .shape-ok .ensures) ∙ c .before .before .if1 .taken,
+      ← earlier .before .before .before .pre .is,
+      sym (earlier .before .shape-ok .ensures) ∙ earlier .if1 .taken,
       sym (c .before .operands-ok .ensures) ∙ c .if2 .left,
     )
 

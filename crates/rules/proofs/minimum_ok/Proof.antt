@@ -15,7 +15,9 @@ returns c =
     (sym (and-yes _))
 
 returns-2 : tie.Need-returns-2
-returns-2 c = rw (le-leb (c .before .before .args .c .minimum) longest (omega arith)) (none-past (c .before .before .args .c .pattern .mask) (8 * c .before .before .args .c .minimum))
+returns-2 c =
+    let earlier = c .before .before in
+    rw (le-leb (earlier .args .c .minimum) longest (omega arith)) (none-past (earlier .args .c .pattern .mask) (8 * earlier .args .c .minimum))
 
 pub minimum-ok-spec : {M : Type 1} → statement M
 minimum-ok-spec = tie.close (tie.spec returns (λ c. search needs) (λ c. search needs) (λ c. search needs) returns-2)

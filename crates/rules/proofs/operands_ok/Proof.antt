@@ -31,11 +31,12 @@ loop-holds : tie.Need-loop-holds Inv-loop μ-loop
 loop-holds c = (omega arith, all-none _)
 
 loop-again : tie.Need-loop-again Inv-loop μ-loop
-loop-again c = (
-  omega arith,
-  all-more _ (c .before .before .before .before .loop .o) (c .before .before .before .before .loop .inv .1)
-      (sym (fits-is (c .before)) ∙ c .if1 .taken),
-)
+loop-again c =
+    let earlier = c .before .before .before .before in (
+      omega arith,
+      all-more _ (earlier .loop .o) (earlier .loop .inv .1)
+          (sym (fits-is (c .before)) ∙ c .if1 .taken),
+    )
 
 returns : tie.Need-returns Inv-loop μ-loop
 returns c = sym (all-stop _ _ (c .before .before .before .before .loop .o) (c .before .before .before .loop-test .taken) (sym (fits-is (c .before)) ∙ c .if1 .left))

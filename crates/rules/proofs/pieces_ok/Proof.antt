@@ -29,25 +29,29 @@ fits-is : (c : tie.After-piece-fits Inv-loop μ-loop) → c .before .before .bef
     → c .piece-fits .result
     ≡ pieceFits (description (c .before .before .before .before .before .before .before .before .args .desc .now) (c .before .before .before .before .before .before .before .before .args .layout)) (c .before .before .before .before .before .before .before .before .args .c) (c .before .before .before .before .loop .q)
 fits-is c good =
+    let earlier = c .before .before .before .before in
+    let earliest = earlier .before .before .before .before in
     c .piece-fits .ensures
-    ∙ piece-fits (description (c .before .before .before .before .before .before .before .before .args .desc .now) (c .before .before .before .before .before .before .before .before .args .layout)) (c .before .before .before .before .before .before .before .before .args .c) (c .before .before .before .before .loop .q)
-    (c .before .before .piece-at .result) (c .before .before .piece-at .ensures) (c .before .before .before .before .loop .shown) (c .before .before .before .before .before .before .before .before .pre .1 .operands .few) (c .before .before .before .before .loop .inv .3 good)
+    ∙ piece-fits (description (earliest .args .desc .now) (earliest .args .layout)) (earliest .args .c) (earlier .loop .q)
+    (c .before .before .piece-at .result) (c .before .before .piece-at .ensures) (earlier .loop .shown) (earliest .pre .1 .operands .few) (earlier .loop .inv .3 good)
 
 loop-holds : tie.Need-loop-holds Inv-loop μ-loop
 loop-holds c = (omega arith, refl, sym (all-none _), λ _. marks-none shownMarks (shows _ _))
 
 loop-again : tie.Need-loop-again Inv-loop μ-loop
 loop-again c =
-    let inv = c .before .before .before .before .before .before .loop .inv in
-    let good = c .before .before .before .before .before .before .loop .good in (
+    let earlier = c .before .before .before .before in
+    let earliest = earlier .before .before in
+    let inv = earliest .loop .inv in
+    let good = earliest .loop .good in (
       omega arith,
       simp length-set (inv .1),
-      all-keep _ (c .before .before .before .before .before .before .loop .q) good (c .before .before .piece-fits .result) (inv .2) (λ g. fits-is (c .before .before) g),
+      all-keep _ (earliest .loop .q) good (c .before .before .piece-fits .result) (inv .2) (λ g. fits-is (c .before .before) g),
       λ t.
           let g = and-left good (c .before .before .piece-fits .result) t in
-          marks-next shownMarks (c .before .before .before .before .before .before .loop .q) (c .before .before .before .before .piece-at .result .n % shownMarks) (eqb (c .before .before .before .before .piece-at .result .kind) 1) (c .before .before .before .before .before .before .loop .shown)
+          marks-next shownMarks (earliest .loop .q) (earlier .piece-at .result .n % shownMarks) (eqb (earlier .piece-at .result .kind) 1) (earliest .loop .shown)
           (shows _ _) (omega arith) (omega arith)
-          (piece-shows _ _ (c .before .before .before .before .before .before .loop .q) (c .before .before .before .before .piece-at .result) (c .before .before .before .before .piece-at .ensures) (c .before .before .before .before .before .before .before .before .before .before .pre .1 .operands .few)
+          (piece-shows _ _ (earliest .loop .q) (earlier .piece-at .result) (earlier .piece-at .ensures) (earliest .before .before .before .before .pre .1 .operands .few)
           (sym (fits-is (c .before .before) g) ∙ and-right good (c .before .before .piece-fits .result) t))
           (inv .3 g),
     )

@@ -6,7 +6,9 @@ use Rattle.rules.proofs.shape_ok.Tie as tie
 
 returns : tie.Need-returns
 unfolding shapeOk
-returns c = rw (operands-length, pieces-length, ← c .before .before .before .before .table-ok .ensures, ← c .before .before .before .minimum-ok .ensures, ← c .before .before .value-ok .ensures, ← c .before .range-ok .ensures, ← c .range-ok2 .ensures)
+returns c =
+    let earlier = c .before .before in
+    rw (operands-length, pieces-length, ← earlier .before .before .table-ok .ensures, ← earlier .before .minimum-ok .ensures, ← earlier .value-ok .ensures, ← c .before .range-ok .ensures, ← c .range-ok2 .ensures)
 
 pub shape-ok-spec : {M : Type 1} → statement M
 shape-ok-spec =

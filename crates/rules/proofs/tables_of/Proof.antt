@@ -33,11 +33,12 @@ loop-holds c = (omega arith, refl, refl, marks-none byteValues (hits (c .before 
 
 loop-again : tie.Need-loop-again Inv-loop μ-loop
 loop-again c =
-    let inv = c .before .before .loop .inv in (
+    let earlier = c .before .before in
+    let inv = earlier .loop .inv in (
       omega arith,
       simp length-set (inv .1),
       inv .2,
-      marks-one byteValues (c .before .before .loop .i) (c .table-at .result) (c .before .before .loop .marks) (hits _ _) (omega arith) (omega arith)
+      marks-one byteValues (earlier .loop .i) (c .table-at .result) (earlier .loop .marks) (hits _ _) (omega arith) (omega arith)
           (λ k l. rw (c .table-at .ensures)) (inv .3),
     )
 

@@ -38,10 +38,11 @@ enum-known-choice c = search needs
 add-number : tie.Need-add-number
 unfolding settingIn
 add-number c =
-    let fixed = c .before .before .before .before .before .before .before .before .before .pre .0 in
-    let layout = c .before .before .before .before .before .layout-of .ensures in
-    let e = rw layout at (sym (c .before .before .before .before .choose-in .ensures) ∙ c .before .before .choice .given .1) in
-    omega (arith, few-in _ _ fixed, taken-inside _ (obeyed-in _ _ fixed) _ _ (c .before .before .before .before .before .before .range-of .ensures) _ _ _ e)
+    let earlier = c .before .before .before .before in
+    let fixed = earlier .before .before .before .before .before .pre .0 in
+    let layout = earlier .before .layout-of .ensures in
+    let e = rw layout at (sym (earlier .choose-in .ensures) ∙ c .before .before .choice .given .1) in
+    omega (arith, few-in _ _ fixed, taken-inside _ (obeyed-in _ _ fixed) _ _ (earlier .before .before .range-of .ensures) _ _ _ e)
 
 enum-told-3 : tie.Need-enum-told-3
 enum-told-3 c = search needs
@@ -49,31 +50,35 @@ enum-told-3 c = search needs
 returns : tie.Need-returns
 unfolding settingIn
 returns c =
-    let fixed = c .before .before .before .before .before .before .before .pre .0 in
-    let e = rw (c .before .before .before .layout-of .ensures) at (sym (c .before .before .choose-in .ensures) ∙ c .enum-told .given .1) in
-    chosen _ (obeyed-in _ _ fixed) _ _ (c .before .before .before .before .range-of .ensures) _ _ _ e
+    let earlier = c .before .before in
+    let fixed = earlier .before .before .before .before .before .pre .0 in
+    let e = rw (earlier .before .layout-of .ensures) at (sym (earlier .choose-in .ensures) ∙ c .enum-told .given .1) in
+    chosen _ (obeyed-in _ _ fixed) _ _ (earlier .before .before .range-of .ensures) _ _ _ e
 
 returns-2 : tie.Need-returns-2
 unfolding settingIn
 returns-2 c =
-    let fixed = c .before .before .before .before .before .before .before .pre .0 in
-    let e = rw (c .before .before .before .layout-of .ensures) at (sym (c .before .before .choose-in .ensures) ∙ c .enum-told2 .given .1) in
-    chosen _ (obeyed-in _ _ fixed) _ _ (c .before .before .before .before .range-of .ensures) _ _ _ e
+    let earlier = c .before .before in
+    let fixed = earlier .before .before .before .before .before .pre .0 in
+    let e = rw (earlier .before .layout-of .ensures) at (sym (earlier .choose-in .ensures) ∙ c .enum-told2 .given .1) in
+    chosen _ (obeyed-in _ _ fixed) _ _ (earlier .before .before .range-of .ensures) _ _ _ e
 
 returns-3 : tie.Need-returns-3
 unfolding settingIn
 returns-3 c =
-    let fixed = c .before .before .before .before .before .before .before .before .before .pre .0 in
-    let layout = c .before .before .before .before .before .layout-of .ensures in
-    let e = rw layout at (sym (c .before .before .before .before .choose-in .ensures) ∙ c .before .before .choice .given .1) in
-    chosen _ (obeyed-in _ _ fixed) _ _ (c .before .before .before .before .before .before .range-of .ensures) _ _ _ e
+    let earlier = c .before .before .before .before in
+    let fixed = earlier .before .before .before .before .before .pre .0 in
+    let layout = earlier .before .layout-of .ensures in
+    let e = rw layout at (sym (earlier .choose-in .ensures) ∙ c .before .before .choice .given .1) in
+    chosen _ (obeyed-in _ _ fixed) _ _ (earlier .before .before .range-of .ensures) _ _ _ e
 
 returns-4 : tie.Need-returns-4
 unfolding settingIn
 returns-4 c =
-    let fixed = c .before .before .before .before .before .before .before .pre .0 in
-    let e = rw (c .before .before .before .layout-of .ensures) at (sym (c .before .before .choose-in .ensures) ∙ c .enum-told3 .given .1) in
-    chosen _ (obeyed-in _ _ fixed) _ _ (c .before .before .before .before .range-of .ensures) _ _ _ e
+    let earlier = c .before .before in
+    let fixed = earlier .before .before .before .before .before .pre .0 in
+    let e = rw (earlier .before .layout-of .ensures) at (sym (earlier .choose-in .ensures) ∙ c .enum-told3 .given .1) in
+    chosen _ (obeyed-in _ _ fixed) _ _ (earlier .before .before .range-of .ensures) _ _ _ e
 
 pub choose-at-spec : {M : Type 1} → statement M
 choose-at-spec =

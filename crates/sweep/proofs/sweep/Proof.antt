@@ -28,7 +28,8 @@ same-length c = search needs
 returns : tie.Need-returns
 unfolding sweepOf bufferAfter
 returns c =
-    let e = sym (c .before .before .before .before .before .before .accept .ensures) ∙ c .before .before .before .before .acceptance .given .1 in
+    let earlier = c .before .before .before .before in
+    let e = sym (earlier .before .before .accept .ensures) ∙ earlier .acceptance .given .1 in
     (rw e (c .before .sweep-in .ensures .answer), rw e (c .before .sweep-in .ensures .rows))
 
 returns-2 : tie.Need-returns-2

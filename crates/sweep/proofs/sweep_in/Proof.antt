@@ -56,11 +56,12 @@ same-length-2 c = long _ _ _ _ _ _ _ _ (c .before .before .before .before .befor
 
 returns-2 : tie.Need-returns-2 Inv-loop μ-loop
 returns-2 c =
-    let test = c .before .before .before .before .before in
+    let earlier = c .before .before in
+    let test = earlier .before .before .before in
     let turn = test .before .loop .inv in
     ended (test .before) _
-    (stops _ _ _ _ _ (test .loop-test .taken) (omega (arith, c .before .before .before .before .if1 .left, turn .progress .few))
-    (sym (step-here _ _ _ _ _ _ _ _ _ _ turn) ∙ sym (c .before .before .step-at .ensures .0) ∙ c .enum-told .given .1))
+    (stops _ _ _ _ _ (test .loop-test .taken) (omega (arith, earlier .before .before .if1 .left, turn .progress .few))
+    (sym (step-here _ _ _ _ _ _ _ _ _ _ turn) ∙ sym (earlier .step-at .ensures .0) ∙ c .enum-told .given .1))
 
 enum-known-found : tie.Need-enum-known-found Inv-loop μ-loop
 enum-known-found c = search needs
@@ -75,9 +76,10 @@ fits c =
 
 put-row-requires : tie.Need-put-row-requires Inv-loop μ-loop
 put-row-requires c κs =
+    let earlier = c .before .before .before .before .before .before in
     let f = fits (c .before .before) in
-    let turn = c .before .before .before .before .before .before .before .before .loop .inv .progress in (
-      omega (arith, long _ _ _ _ _ _ _ _ turn, turn .lent, turn .few, c .before .before .before .before .before .before .if1 .left),
+    let turn = earlier .before .before .loop .inv .progress in (
+      omega (arith, long _ _ _ _ _ _ _ _ turn, turn .lent, turn .few, earlier .if1 .left),
       (omega (arith, turn .inside), omega (arith, f .here), omega (arith, f .small)),
     )
 

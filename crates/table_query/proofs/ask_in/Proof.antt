@@ -20,12 +20,15 @@ table-of-requires c κs = search needs
 
 returns : tie.Need-returns
 unfolding askIn
-returns c = rw (absent _ (obeyed _ _ (c .before .before .before .before .before .pre)) _ _ _ (c .before .before .table-of .ensures .0) (c .before .before .table-of .ensures .1) (c .if1 .taken))
+returns c =
+    let earlier = c .before .before in
+    rw (absent _ (obeyed _ _ (earlier .before .before .before .pre)) _ _ _ (earlier .table-of .ensures .0) (earlier .table-of .ensures .1) (c .if1 .taken))
 
 choose-in-requires : tie.Need-choose-in-requires
 choose-in-requires c κs =
-    let s = c .before .before .before .before .before in
-    (s .pre .room, rw constructors-length at (in-section _ (obeyed _ _ (s .pre)) _ _ _ (c .before .before .table-of .ensures .0) (c .before .before .table-of .ensures .1)))
+    let earlier = c .before .before in
+    let s = earlier .before .before .before in
+    (s .pre .room, rw constructors-length at (in-section _ (obeyed _ _ (s .pre)) _ _ _ (earlier .table-of .ensures .0) (earlier .table-of .ensures .1)))
 
 enum-told : tie.Need-enum-told
 enum-told c = search needs
@@ -38,9 +41,10 @@ enum-known-choice c = search needs
 
 taken-requires : tie.Need-taken-requires
 taken-requires c κs =
-    let s = c .before .before .before .before .before .before .before .before .before in
+    let earlier = c .before .before .before .before .before .before in
+    let s = earlier .before .before .before in
     let f = taken-facts _ _ _ _ _ (sym (c .before .before .before .choose-in .ensures) ∙ c .before .choice .given .1) in
-    let n = rw constructors-length at (in-section _ (obeyed _ _ (s .pre)) _ _ _ (c .before .before .before .before .before .before .table-of .ensures .0) (c .before .before .before .before .before .before .table-of .ensures .1)) in
+    let n = rw constructors-length at (in-section _ (obeyed _ _ (s .pre)) _ _ _ (earlier .table-of .ensures .0) (earlier .table-of .ensures .1)) in
     (s .pre .room, omega (arith, f .within, n))
 
 enum-told-3 : tie.Need-enum-told-3
@@ -48,28 +52,32 @@ enum-told-3 c = search needs
 
 returns-2 : tie.Need-returns-2
 returns-2 c =
-    answer _ _ _ _ _ _ (c .before .before .before .before .before .table-of .ensures .0) (c .before .before .before .before .before .table-of .ensures .1)
-    (there _ (obeyed _ _ (c .before .before .before .before .before .before .before .before .pre)) _ _ _ (c .before .before .before .before .before .table-of .ensures .0) (c .before .before .before .before .before .table-of .ensures .1) (c .before .before .before .if1 .left)) _
+    let earlier = c .before .before .before .before .before in
+    answer _ _ _ _ _ _ (earlier .table-of .ensures .0) (earlier .table-of .ensures .1)
+    (there _ (obeyed _ _ (earlier .before .before .before .pre)) _ _ _ (earlier .table-of .ensures .0) (earlier .table-of .ensures .1) (c .before .before .before .if1 .left)) _
     (sym (c .before .before .choose-in .ensures) ∙ c .enum-told .given .1)
 
 returns-3 : tie.Need-returns-3
 returns-3 c =
-    answer _ _ _ _ _ _ (c .before .before .before .before .before .table-of .ensures .0) (c .before .before .before .before .before .table-of .ensures .1)
-    (there _ (obeyed _ _ (c .before .before .before .before .before .before .before .before .pre)) _ _ _ (c .before .before .before .before .before .table-of .ensures .0) (c .before .before .before .before .before .table-of .ensures .1) (c .before .before .before .if1 .left)) _
+    let earlier = c .before .before .before .before .before in
+    answer _ _ _ _ _ _ (earlier .table-of .ensures .0) (earlier .table-of .ensures .1)
+    (there _ (obeyed _ _ (earlier .before .before .before .pre)) _ _ _ (earlier .table-of .ensures .0) (earlier .table-of .ensures .1) (c .before .before .before .if1 .left)) _
     (sym (c .before .before .choose-in .ensures) ∙ c .enum-told2 .given .1)
 
 returns-4 : tie.Need-returns-4
 returns-4 c =
+    let earlier = c .before .before .before .before .before .before .before in
     c .taken .ensures
-    ∙ (rw (c .before .before .before .before .before .before .before .table-of .ensures .0) refl
-    ∙ answer _ _ _ _ _ _ (c .before .before .before .before .before .before .before .table-of .ensures .0) (c .before .before .before .before .before .before .before .table-of .ensures .1)
-    (there _ (obeyed _ _ (c .before .before .before .before .before .before .before .before .before .before .pre)) _ _ _ (c .before .before .before .before .before .before .before .table-of .ensures .0) (c .before .before .before .before .before .before .before .table-of .ensures .1) (c .before .before .before .before .before .if1 .left)) _
+    ∙ (rw (earlier .table-of .ensures .0) refl
+    ∙ answer _ _ _ _ _ _ (earlier .table-of .ensures .0) (earlier .table-of .ensures .1)
+    (there _ (obeyed _ _ (earlier .before .before .before .pre)) _ _ _ (earlier .table-of .ensures .0) (earlier .table-of .ensures .1) (c .before .before .before .before .before .if1 .left)) _
     (sym (c .before .before .before .before .choose-in .ensures) ∙ c .before .before .choice .given .1))
 
 returns-5 : tie.Need-returns-5
 returns-5 c =
-    answer _ _ _ _ _ _ (c .before .before .before .before .before .table-of .ensures .0) (c .before .before .before .before .before .table-of .ensures .1)
-    (there _ (obeyed _ _ (c .before .before .before .before .before .before .before .before .pre)) _ _ _ (c .before .before .before .before .before .table-of .ensures .0) (c .before .before .before .before .before .table-of .ensures .1) (c .before .before .before .if1 .left)) _
+    let earlier = c .before .before .before .before .before in
+    answer _ _ _ _ _ _ (earlier .table-of .ensures .0) (earlier .table-of .ensures .1)
+    (there _ (obeyed _ _ (earlier .before .before .before .pre)) _ _ _ (earlier .table-of .ensures .0) (earlier .table-of .ensures .1) (c .before .before .before .if1 .left)) _
     (sym (c .before .before .choose-in .ensures) ∙ c .enum-told3 .given .1)
 
 pub ask-in-spec : {M : Type 1} → statement M

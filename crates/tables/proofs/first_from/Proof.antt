@@ -31,15 +31,16 @@ table-at-requires c κs = (c .before .before .before .pre .room, omega arith)
 
 loop-again : tie.Need-loop-again Inv-loop μ-loop
 loop-again c =
-    let s = c .before .before .before .before .before in (
+    let earlier = c .before .before .before in
+    let s = earlier .before .before in (
       omega arith,
       omega arith,
       λ i h.
           let d = description (s .args .desc .now) (s .args .layout) in
-          let m = c .before .before .before .loop .low in
+          let m = earlier .loop .low in
           let a : tableAt d i ≤ c .before .table-at .result = rw (c .before .table-at .ensures) (sorted d (obeyed _ _ (s .pre)) i _ (omega arith) (rw constructors-length (omega arith))) in
           omega (arith, c .if1 .taken),
-      c .before .before .before .loop .inv .3,
+      earlier .loop .inv .3,
     )
 
 loop-again-2 : tie.Need-loop-again-2 Inv-loop μ-loop
@@ -53,8 +54,9 @@ loop-again-2 c = (
 returns : tie.Need-returns Inv-loop μ-loop
 unfolding tableFirst
 returns c =
-    let d = description (c .before .before .before .args .desc .now) (c .before .before .before .args .layout) in
-    let t = c .before .before .before .args .t in
+    let earlier = c .before .before .before in
+    let d = description (earlier .args .desc .now) (earlier .args .layout) in
+    let t = earlier .args .t in
     let inv = c .before .loop .inv in
     let e : c .before .loop .high ≡ c .before .loop .low = omega arith in
     sym (first-here (λ i. ltb (tableAt d i) t) (length (d .constructors)) (c .before .loop .low)

@@ -157,20 +157,21 @@ print-constructor-print-piece-requires : (t : ℕ) → print-constructor-lts.Nee
     print-constructor-Inv-loop
     print-constructor-μ-loop
 print-constructor-print-piece-requires t c κs =
-    let start = c .before .before .before .before .before .before .before .before .before in
+    let earlier = c .before .before in
+    let start = earlier .before .before .before .before .before .before .before in
     let d = described (start .args .desc .now) (start .args .fixed .now) in
     let o = obeyed-in _ _ (start .pre .1 .0 .fixed) in
     let k = numberAt (start .args .rows .now) (start .args .r) in
     let low = start .pre .1 .0 .sound .constructors (start .args .r) (start .pre .1 .0 .row) (start .pre .1 .1) in
-    let read = found t (c .before .before .before .before .before) in
+    let read = found t (earlier .before .before .before) in
     let test = rw read at (c .before .loop-test .taken) in (
       omega (arith, start .pre .0, start .pre .1 .0 .sound .few, start .pre .1 .0 .row),
       (
-        moved (start .pre .1 .0) (start .pre .1 .0 .row) (c .before .before .loop .inv .room),
+        moved (start .pre .1 .0) (start .pre .1 .0 .row) (earlier .loop .inv .room),
         record {
           kind = start .pre .1 .1;
           inside = rw read (omega (arith, pieces-inside d o k low, test));
-          showable = rw read (showable d o k low (c .before .before .loop .q) test);
+          showable = rw read (showable d o k low (earlier .loop .q) test);
         },
       ),
     )
@@ -289,17 +290,20 @@ print-piece-cast-put-letters t c = search needs
 
 print-piece-put-letters-requires : (t : ℕ) → print-piece-lts.Need-put-letters-requires (print-piece-claims t) (print-piece-at t) print-piece.Post
 print-piece-put-letters-requires t c κs =
-    let start = c .before .before .before .before .before .before .before .before in
-    let read = c .before .before .before .before .before .piece .ensures in
+    let earlier = c .before .before .before .before .before in
+    let start = earlier .before .before .before in
+    let read = earlier .piece .ensures in
     ((start .pre .1 .0 .fixed, rw read (start .pre .1 .1 .showable .letters (rw read at (c .before .before .if1 .taken)))), start .pre .1 .0 .place)
 
 print-piece-same-length : (t : ℕ) → print-piece-lts.Need-same-length (print-piece-claims t) (print-piece-at t) print-piece.Post
 print-piece-same-length t c = search needs
 
 print-piece-returns : (t : ℕ) → print-piece-lts.Need-returns (print-piece-claims t) (print-piece-at t) print-piece.Post
-print-piece-returns t c = λ depth g.
-    let read = c .before .before .before .before .before .before .before .before .piece .ensures in
-    piece-letters _ _ _ _ _ _ _ (rw read at (c .before .before .before .before .before .if1 .taken)) (rw read at (c .before .before .put-letters .ensures))
+print-piece-returns t c =
+    let earlier = c .before .before .before .before .before in
+    λ depth g.
+    let read = earlier .before .before .before .piece .ensures in
+    piece-letters _ _ _ _ _ _ _ (rw read at (earlier .if1 .taken)) (rw read at (c .before .before .put-letters .ensures))
 
 -- the row of operand n stands behind its constructor's
 abbrev Behind : List ℤ → ℕ → ℕ → ℕ → Type 0
@@ -344,11 +348,12 @@ print-piece-same-length-2 t c = search needs
 
 print-piece-returns-2 : (t : ℕ) → print-piece-lts.Need-returns-2 (print-piece-claims t) (print-piece-at t) print-piece.Post
 print-piece-returns-2 t c =
+    let earlier = c .before .before .before .before in
     λ depth g.
-    let read = c .before .before .before .before .before .before .before .before .piece .ensures in
-    let row = c .before .before .before .before .row-behind .ensures in
-    let behind = behind t (c .before .before .before .before .before) in
-    piece-operand _ _ _ _ _ _ _ (rw read at (c .before .before .before .before .before .if1 .left))
+    let read = earlier .before .before .before .before .piece .ensures in
+    let row = earlier .row-behind .ensures in
+    let behind = behind t (earlier .before) in
+    piece-operand _ _ _ _ _ _ _ (rw read at (earlier .before .if1 .left))
     (rw (row, read) at (c .before .before .print-part .ensures depth (omega (arith, row, behind .0))))
 
 pub +print-constructor+print-part+print-piece-spec : {M : Type 1} → statement M

@@ -35,13 +35,15 @@ in-buffer c = rw (c .put .given .1) at (c .before .before .before .print-part .e
 
 array-share-prefix-text : tie.Need-array-share-prefix-text
 array-share-prefix-text c =
-    let few = end-few _ _ _ (c .before .before .before .before .before .before .before .before .args .out .now) (length-replicate {A = ℕ} 256 0) _ (in-buffer (c .before)) in
-    rw (c .before .before .before .before .print-part .kept .1 .1 .1 .1 .1 .0) few
+    let earlier = c .before .before .before .before in
+    let few = end-few _ _ _ (earlier .before .before .before .before .args .out .now) (length-replicate {A = ℕ} 256 0) _ (in-buffer (c .before)) in
+    rw (earlier .print-part .kept .1 .1 .1 .1 .1 .0) few
 
 slice-aggregate-put-bytes : tie.Need-slice-aggregate-put-bytes
 slice-aggregate-put-bytes c =
-    let few = end-few _ _ _ (c .before .before .before .before .before .before .before .before .before .args .out .now) (length-replicate {A = ℕ} 256 0) _ (in-buffer (c .before .before)) in
-    sym (length-take-le _ _ (rw (c .before .before .before .before .before .print-part .kept .1 .1 .1 .1 .1 .0) few))
+    let earlier = c .before .before .before .before .before in
+    let few = end-few _ _ _ (earlier .before .before .before .before .args .out .now) (length-replicate {A = ℕ} 256 0) _ (in-buffer (c .before .before)) in
+    sym (length-take-le _ _ (rw (earlier .print-part .kept .1 .1 .1 .1 .1 .0) few))
 
 put-bytes-requires : tie.Need-put-bytes-requires
 put-bytes-requires c κs = search needs
@@ -62,16 +64,18 @@ same-length c = search needs
 
 returns-2 : tie.Need-returns-2
 returns-2 c =
-    let text = in-buffer (c .before .before .before .before .before .before .before .before) in
-    line-full _ _ _ _ (length-replicate {A = ℕ} 256 0) _ text _ _ (c .before .before .before .before .put-bytes .ensures) (c .enum-told2 .given .1)
+    let earlier = c .before .before .before .before in
+    let text = in-buffer (earlier .before .before .before .before) in
+    line-full _ _ _ _ (length-replicate {A = ℕ} 256 0) _ text _ _ (earlier .put-bytes .ensures) (c .enum-told2 .given .1)
 
 same-length-2 : tie.Need-same-length-2
 same-length-2 c = search needs
 
 returns-3 : tie.Need-returns-3
 returns-3 c =
-    let text = in-buffer (c .before .before .before .before .before .before .before .before .before) in
-    line-written _ _ _ _ (length-replicate {A = ℕ} 256 0) _ text _ _ (c .before .before .before .before .before .put-bytes .ensures) _ (c .before .copied .given .1)
+    let earlier = c .before .before .before .before .before in
+    let text = in-buffer (earlier .before .before .before .before) in
+    line-written _ _ _ _ (length-replicate {A = ℕ} 256 0) _ text _ _ (earlier .put-bytes .ensures) _ (c .before .copied .given .1)
 
 pub print-text-spec : {M : Type 1} → statement M
 print-text-spec =

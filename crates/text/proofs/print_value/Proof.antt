@@ -32,9 +32,10 @@ shared-slice-copy-out-put-field c = search needs
 put-field-requires : tie.Need-put-field-requires
 unfolding numberAt
 put-field-requires c κs =
-    let start = c .before .before .before .before .before .before in
-    let low = start .pre .0 .sound .fields _ (start .pre .0 .row) (sym (start .pre .1 .is) ∙ c .before .before .before .if1 .taken) in
-    ((start .pre .0 .fixed, rw (c .before .before .column .ensures) low), start .pre .0 .place)
+    let earlier = c .before .before in
+    let start = earlier .before .before .before .before in
+    let low = start .pre .0 .sound .fields _ (start .pre .0 .row) (sym (start .pre .1 .is) ∙ earlier .before .if1 .taken) in
+    ((start .pre .0 .fixed, rw (earlier .column .ensures) low), start .pre .0 .place)
 
 same-length : tie.Need-same-length
 same-length c = search needs
@@ -42,9 +43,10 @@ same-length c = search needs
 returns : tie.Need-returns
 unfolding numberAt lastAt
 returns c =
-    let start = c .before .before .before .before .before .before .before .before .before in
-    part-number _ _ _ (omega (arith, start .pre .0 .sound .few)) _ _ _ _ (sym (start .pre .1 .is) ∙ c .before .before .before .before .before .before .if1 .taken)
-    (rw (toZ-ofZ (record { sfits = c .before .before .before .before .put-field-arg .given }), c .before .before .before .before .before .column .ensures) at (c .before .before .put-field .ensures))
+    let earlier = c .before .before .before .before in
+    let start = earlier .before .before .before .before .before in
+    part-number _ _ _ (omega (arith, start .pre .0 .sound .few)) _ _ _ _ (sym (start .pre .1 .is) ∙ earlier .before .before .if1 .taken)
+    (rw (toZ-ofZ (record { sfits = earlier .put-field-arg .given }), earlier .before .column .ensures) at (c .before .before .put-field .ensures))
 
 column-requires-2 : tie.Need-column-requires-2
 column-requires-2 c κs = search needs
@@ -63,10 +65,11 @@ same-length-2 c = search needs
 returns-2 : tie.Need-returns-2
 unfolding lastAt
 returns-2 c =
-    let start = c .before .before .before .before .before .before .before .before in
+    let earlier = c .before .before .before .before in
+    let start = earlier .before .before .before .before in
     let is = start .pre .1 .is in
-    part-name _ _ _ (omega (arith, start .pre .0 .sound .few)) _ _ _ _ (λ e. start .pre .1 .other (is ∙ e)) (λ e. c .before .before .before .before .before .if1 .left (is ∙ e))
-    (rw (c .before .before .before .before .column2 .ensures) at (c .before .before .put-name .ensures))
+    part-name _ _ _ (omega (arith, start .pre .0 .sound .few)) _ _ _ _ (λ e. start .pre .1 .other (is ∙ e)) (λ e. earlier .before .if1 .left (is ∙ e))
+    (rw (earlier .column2 .ensures) at (c .before .before .put-name .ensures))
 
 pub print-value-spec : {M : Type 1} → statement M
 print-value-spec =

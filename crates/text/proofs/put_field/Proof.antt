@@ -18,9 +18,10 @@ same-length c = search needs
 
 returns : tie.Need-returns
 returns c =
-    let value = toZ-ofZ (c .before .before .before .before .before .before .before .before .fits .value) in
-    let base = c .before .before .before .before .base-of .ensures .0 in
-    let field = c .before .before .before .before .before .field .ensures in
+    let earlier = c .before .before .before .before in
+    let value = toZ-ofZ (earlier .before .before .before .before .fits .value) in
+    let base = earlier .base-of .ensures .0 in
+    let field = earlier .before .field .ensures in
     rw (value, base, field) at (c .before .before .put-value .ensures)
 
 pub put-field-spec : {M : Type 1} → statement M

@@ -32,9 +32,10 @@ enum-known-put c = search needs
 
 add-end : tie.Need-add-end
 add-end c =
-    let start = c .before .before .before .before .before .before .before .before .before .before in
+    let earlier = c .before .before .before .before .before in
+    let start = earlier .before .before .before .before .before in
     let within : start .args .at + c .before .put .given .0 .0 ≤ length (start .args .out .now) =
-    end-within _ _ (start .args .out .now) _ _ (start .pre .1) _ refl (c .before .before .before .before .before .put-bytes .ensures) _ (c .before .put .given .1) in
+    end-within _ _ (start .args .out .now) _ _ (start .pre .1) _ refl (earlier .put-bytes .ensures) _ (c .before .put .given .1) in
     omega arith
 
 same-length : tie.Need-same-length
@@ -43,8 +44,9 @@ same-length c = search needs
 returns : tie.Need-returns
 unfolding letters
 returns c =
-    let start = c .before .before .before .before .before .before .before .before .before in
-    let puts = rw (c .before .before .before .before .before .before .letters .ensures) at (c .before .before .before .before .put-bytes .ensures) in
+    let earlier = c .before .before .before .before in
+    let start = earlier .before .before .before .before .before in
+    let puts = rw (earlier .before .before .letters .ensures) at (earlier .put-bytes .ensures) in
     appends-full _ _ _ _ _ (start .pre .1) _ refl puts _ (c .enum-told .given .1)
 
 same-length-2 : tie.Need-same-length-2
@@ -53,8 +55,9 @@ same-length-2 c = search needs
 returns-2 : tie.Need-returns-2
 unfolding letters
 returns-2 c =
-    let start = c .before .before .before .before .before .before .before .before .before .before in
-    let puts = rw (c .before .before .before .before .before .before .before .letters .ensures) at (c .before .before .before .before .before .put-bytes .ensures) in
+    let earlier = c .before .before .before .before .before in
+    let start = earlier .before .before .before .before .before in
+    let puts = rw (earlier .before .before .letters .ensures) at (earlier .put-bytes .ensures) in
     appends-wrote _ _ _ _ _ (start .pre .1) _ refl puts _ (c .before .put .given .1)
 
 pub put-letters-spec : {M : Type 1} → statement M

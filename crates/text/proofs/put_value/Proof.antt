@@ -29,9 +29,10 @@ enum-known-put c = search needs
 
 add-end : tie.Need-add-end
 add-end c =
-    let start = c .before .before .before .before .before .before .before .before in
+    let earlier = c .before .before .before .before .before in
+    let start = earlier .before .before .before in
     let within : start .args .at + c .before .put .given .0 .0 ≤ length (start .args .out .now) =
-    end-within _ _ (start .args .out .now) _ _ (start .pre .1) _ refl (c .before .before .before .before .before .put-number .ensures) _ (c .before .put .given .1) in
+    end-within _ _ (start .args .out .now) _ _ (start .pre .1) _ refl (earlier .put-number .ensures) _ (c .before .put .given .1) in
     omega arith
 
 same-length : tie.Need-same-length
@@ -39,16 +40,18 @@ same-length c = search needs
 
 returns : tie.Need-returns
 returns c =
-    let start = c .before .before .before .before .before .before .before in
-    appends-full _ _ _ _ _ (start .pre .1) _ refl (rw (toZ-ofZ (start .fits .value)) at (c .before .before .before .before .put-number .ensures)) _ (c .enum-told .given .1)
+    let earlier = c .before .before .before .before in
+    let start = earlier .before .before .before in
+    appends-full _ _ _ _ _ (start .pre .1) _ refl (rw (toZ-ofZ (start .fits .value)) at (earlier .put-number .ensures)) _ (c .enum-told .given .1)
 
 same-length-2 : tie.Need-same-length-2
 same-length-2 c = search needs
 
 returns-2 : tie.Need-returns-2
 returns-2 c =
-    let start = c .before .before .before .before .before .before .before .before in
-    appends-wrote _ _ _ _ _ (start .pre .1) _ refl (rw (toZ-ofZ (start .fits .value)) at (c .before .before .before .before .before .put-number .ensures)) _ (c .before .put .given .1)
+    let earlier = c .before .before .before .before .before in
+    let start = earlier .before .before .before in
+    appends-wrote _ _ _ _ _ (start .pre .1) _ refl (rw (toZ-ofZ (start .fits .value)) at (earlier .put-number .ensures)) _ (c .before .put .given .1)
 
 pub put-value-spec : {M : Type 1} → statement M
 put-value-spec =

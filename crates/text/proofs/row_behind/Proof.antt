@@ -28,10 +28,11 @@ column-requires c κs = omega (arith, skip-on (c .before .before .args .rows .no
 add-row : tie.Need-add-row Inv-loop μ-loop
 unfolding sizeAt
 add-row c =
-    let rows = c .before .before .before .args .rows .now in
-    let row = c .before .before .loop .row in
+    let earlier = c .before .before in
+    let rows = earlier .before .args .rows .now in
+    let row = earlier .loop .row in
     let e : c .column .result ≡ sizeAt rows row = c .column .ensures in
-    omega (arith, e, skip-on rows (row + sizeAt rows row) (c .before .before .loop .left - 1), skip-one rows row (c .before .before .loop .left) (c .before .loop-test .taken), c .before .before .loop .inv)
+    omega (arith, e, skip-on rows (row + sizeAt rows row) (earlier .loop .left - 1), skip-one rows row (earlier .loop .left) (c .before .loop-test .taken), earlier .loop .inv)
 
 sub-left : tie.Need-sub-left Inv-loop μ-loop
 sub-left c = omega arith
@@ -42,8 +43,9 @@ loop-less c = omega arith
 loop-again : tie.Need-loop-again Inv-loop μ-loop
 unfolding sizeAt
 loop-again c =
+    let earlier = c .before .before in
     rw (c .column .ensures)
-    (sym (skip-one (c .before .before .before .args .rows .now) (c .before .before .loop .row) (c .before .before .loop .left) (c .before .loop-test .taken)) ∙ c .before .before .loop .inv)
+    (sym (skip-one (earlier .before .args .rows .now) (earlier .loop .row) (earlier .loop .left) (c .before .loop-test .taken)) ∙ earlier .loop .inv)
 
 returns : tie.Need-returns Inv-loop μ-loop
 returns c = sym (skip-none (c .before .before .args .rows .now) (c .before .loop .row) (c .before .loop .left) (c .loop-test .left)) ∙ c .before .loop .inv

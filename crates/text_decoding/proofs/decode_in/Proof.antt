@@ -28,10 +28,11 @@ slice-aggregate-print-text c = search needs
 
 print-text-requires : tie.Need-print-text-requires
 print-text-requires c κs =
-    let start = c .before .before .before .before .before .before .before .before .before .before .before .before .before in
+    let earlier = c .before .before .before .before .before .before .before in
+    let start = earlier .before .before .before .before .before .before in
     let formed = start .pre in
-    let fills = c .before .before .before .before .before .before .before .before .before .fill .ensures in
-    let decodes = c .before .before .before .before .before .before .before .decode-at .ensures in
+    let fills = earlier .before .before .fill .ensures in
+    let decodes = earlier .decode-at .ensures in
     let done = c .before .before .before .before .walked2 .given .1 in (
       told-fixed _ _ formed _ fills (start .args .code .now) _ (decodes .1),
       (sound-rows _ _ formed _ fills _ _ _ (decodes .0) _ _ done _ (decodes .1), some-rows _ _ formed _ fills _ _ _ (decodes .0) _ _ done),
@@ -45,9 +46,10 @@ AnswersAt start new r =
 -- the text is printed
 printed : (c : tie.After-print-text) → AnswersAt (c .before .before .before .before .before .before .before .before .before .before .before .before .before .before) (c .print-text .last .1 .1 .1 .1 .0) (lineAnswer (c .print-text .result))
 printed c =
-    let formed = c .before .before .before .before .before .before .before .before .before .before .before .before .before .before .pre in
-    let fills = c .before .before .before .before .before .before .before .before .before .before .fill .ensures in
-    let decodes = c .before .before .before .before .before .before .before .before .decode-at .ensures in
+    let earlier = c .before .before .before .before .before .before .before .before in
+    let formed = earlier .before .before .before .before .before .before .pre in
+    let fills = earlier .before .before .fill .ensures in
+    let decodes = earlier .decode-at .ensures in
     let done = c .before .before .before .before .before .walked2 .given .1 in
     let prints = c .print-text .ensures in
     line-answers _ _ formed _ fills _ _ _ (decodes .0) _ _ done _ (decodes .1) _ _ _ (prints .0) (prints .1)
@@ -63,9 +65,10 @@ enum-told-2 c = search needs
 
 returns : tie.Need-returns
 returns c =
-    let start = c .before .before .before .before .before .before .before .before .before .before in
-    let fills = c .before .before .before .before .before .before .fill .ensures in
-    let decodes = c .before .before .before .before .decode-at .ensures in
+    let earlier = c .before .before .before .before in
+    let start = earlier .before .before .before .before .before .before in
+    let fills = earlier .before .before .fill .ensures in
+    let decodes = earlier .decode-at .ensures in
     refusal-answers _ _ (start .pre) _ fills _ _ _ (decodes .0) (start .args .out .now) _ (c .before .walked .given .1)
 
 same-length : tie.Need-same-length

@@ -24,8 +24,9 @@ same-length c = search needs
 returns : tie.Need-returns
 unfolding decodeTextOf textAfter
 returns c =
-    let accepted = sym (c .before .before .before .before .before .before .before .accept .ensures) ∙ c .before .before .before .before .before .acceptance .given .1 in
-    (rw accepted (c .before .before .decode-in .ensures .0), rw accepted (c .before .before .decode-in .ensures .1))
+    let earlier = c .before .before in
+    let accepted = sym (earlier .before .before .before .before .before .accept .ensures) ∙ earlier .before .before .before .acceptance .given .1 in
+    (rw accepted (earlier .decode-in .ensures .0), rw accepted (earlier .decode-in .ensures .1))
 
 returns-2 : tie.Need-returns-2
 unfolding decodeTextOf textAfter

@@ -47,18 +47,25 @@ add-next : tie.Need-add-next Inv-loop μ-loop Inv-leaves μ-leaves
 add-next c = omega arith
 
 kind-requires : tie.Need-kind-requires Inv-loop μ-loop Inv-leaves μ-leaves
-kind-requires c κs = omega (arith, c .leaves-test .taken, c .before .before .before .before .pre .nodes, sized (c .before .before .before .before .args .tree .now) (good-counted _ _ (c .before .before .before .before .args .tree .now) (c .before .before .before .before .pre .good)) .bytes)
+kind-requires c κs =
+    let earlier = c .before .before .before .before in
+    omega (arith, c .leaves-test .taken, earlier .pre .nodes, sized (earlier .args .tree .now) (good-counted _ _ (earlier .args .tree .now) (earlier .pre .good)) .bytes)
 
 path-to-requires : tie.Need-path-to-requires Inv-loop μ-loop Inv-leaves μ-leaves
-path-to-requires c κs = (c .before .before .before .before .before .before .pre .good, (omega (arith, c .before .before .leaves-test .taken, c .before .before .before .before .before .before .pre .nodes), sym (c .before .kind .ensures) ∙ c .if1 .taken))
+path-to-requires c κs =
+    let earlier = c .before .before .before .before .before .before in
+    (earlier .pre .good, (omega (arith, c .before .before .leaves-test .taken, earlier .pre .nodes), sym (c .before .kind .ensures) ∙ c .if1 .taken))
 
 place-requires : tie.Need-place-requires Inv-loop μ-loop Inv-leaves μ-leaves
-place-requires c κs = omega (arith, c .before .before .before .leaves-test .taken, c .before .before .before .before .before .before .before .pre .nodes, sized (c .before .before .before .before .before .before .before .args .tree .now) (good-counted _ _ (c .before .before .before .before .before .before .before .args .tree .now) (c .before .before .before .before .before .before .before .pre .good)) .bytes)
+place-requires c κs =
+    let earlier = c .before .before .before .before .before .before .before in
+    omega (arith, c .before .before .before .leaves-test .taken, earlier .pre .nodes, sized (earlier .args .tree .now) (good-counted _ _ (earlier .args .tree .now) (earlier .pre .good)) .bytes)
 
 named-by-requires : tie.Need-named-by-requires Inv-loop μ-loop Inv-leaves μ-leaves
 named-by-requires c κs =
-    let s = c .before .before .before .before .before .before .before .before .pre in
-    (s .room, (s .within, rw (c .place .ensures) (tree-says _ _ _ (tree-of _ _ _ (s .good)) (c .before .before .before .before .before .leaves .next) (omega arith) (omega (arith, c .before .before .before .before .leaves-test .taken, s .nodes)) (sym (c .before .before .before .kind .ensures) ∙ c .before .before .if1 .taken))))
+    let earlier = c .before .before .before in
+    let s = earlier .before .before .before .before .before .pre in
+    (s .room, (s .within, rw (c .place .ensures) (tree-says _ _ _ (tree-of _ _ _ (s .good)) (earlier .before .before .leaves .next) (omega arith) (omega (arith, earlier .before .leaves-test .taken, s .nodes)) (sym (earlier .kind .ensures) ∙ c .before .before .if1 .taken))))
 
 loop-holds : tie.Need-loop-holds Inv-loop μ-loop Inv-leaves μ-leaves
 loop-holds c = (omega arith, c .before .before .before .before .before .before .leaves .inv .1, any-none _)
@@ -68,11 +75,14 @@ leaves-less c = omega arith
 
 leaves-again : tie.Need-leaves-again Inv-loop μ-loop Inv-leaves μ-leaves
 leaves-again c =
-    let s : c .before .before .loop .j ≡ c .before .before .before .before .before .before .before .before .before .before .before .before .args .table .count = omega (arith, c .if2 .left) in
-    (omega (arith, c .before .before .before .before .before .before .before .before .leaves-test .taken), c .before .before .loop .inv .1, clear-more _ _ _ _ (c .before .before .before .before .before .before .before .before .before .leaves .inv .2) (λ e. rw s at (c .before .before .loop .inv .2)))
+    let earlier = c .before .before .before .before .before .before .before .before in
+    let s : c .before .before .loop .j ≡ earlier .before .before .before .before .args .table .count = omega (arith, c .if2 .left) in
+    (omega (arith, earlier .leaves-test .taken), c .before .before .loop .inv .1, clear-more _ _ _ _ (earlier .before .leaves .inv .2) (λ e. rw s at (c .before .before .loop .inv .2)))
 
 row-requires : tie.Need-row-requires Inv-loop μ-loop Inv-leaves μ-leaves
-row-requires c κs = (c .before .before .before .before .before .before .before .before .before .before .before .before .pre .room, omega (arith, c .if2 .taken, c .before .before .before .before .before .before .before .before .before .before .before .before .pre .within))
+row-requires c κs =
+    let earlier = c .before .before .before .before .before .before .before .before .before .before .before in
+    (earlier .before .pre .room, omega (arith, c .if2 .taken, earlier .before .pre .within))
 
 add-shows-wrong : tie.Need-add-shows-wrong Inv-loop μ-loop Inv-leaves μ-leaves
 add-shows-wrong c = omega (arith, c .before .before .before .before .before .before .before .before .before .before .before .before .before .before .pre .low, c .before .before .if2 .taken)
@@ -87,22 +97,26 @@ loop-less : tie.Need-loop-less Inv-loop μ-loop Inv-leaves μ-leaves
 loop-less c = omega arith
 
 loop-again : tie.Need-loop-again Inv-loop μ-loop Inv-leaves μ-leaves
-loop-again c = (
-  omega (arith, c .before .before .before .before .if2 .taken),
-  c .before .before .before .before .before .before .loop .inv .1,
-  none-more _ (c .before .before .before .before .before .before .loop .j) (c .before .before .before .before .before .before .loop .inv .2)
-      (shown-is _ _ _ _ _ _ _ _ _ _ (c .before .before .before .before .before .before .before .before .before .path-to .ensures) (c .before .before .before .before .before .before .before .before .place .ensures) (c .before .before .before .before .before .before .before .named-by .ensures) (c .before .before .before .row .ensures) (c .before .shows-wrong .ensures) ∙ c .if3 .left),
-)
+loop-again c =
+    let earlier = c .before .before .before .before .before .before in (
+      omega (arith, c .before .before .before .before .if2 .taken),
+      earlier .loop .inv .1,
+      none-more _ (earlier .loop .j) (earlier .loop .inv .2)
+          (shown-is _ _ _ _ _ _ _ _ _ _ (earlier .before .before .before .path-to .ensures) (earlier .before .before .place .ensures) (earlier .before .named-by .ensures) (c .before .before .before .row .ensures) (c .before .shows-wrong .ensures) ∙ c .if3 .left),
+    )
 
 leaves-less-2 : tie.Need-leaves-less-2 Inv-loop μ-loop Inv-leaves μ-leaves
 leaves-less-2 c = omega arith
 
 leaves-again-2 : tie.Need-leaves-again-2 Inv-loop μ-loop Inv-leaves μ-leaves
-leaves-again-2 c = (omega (arith, c .before .before .leaves-test .taken), c .before .before .before .leaves .inv .1, clear-more _ _ _ _ (c .before .before .before .leaves .inv .2) (λ e. absurd (c .if1 .left (c .before .kind .ensures ∙ e))))
+leaves-again-2 c =
+    let earlier = c .before .before in
+    (omega (arith, earlier .leaves-test .taken), earlier .before .leaves .inv .1, clear-more _ _ _ _ (earlier .before .leaves .inv .2) (λ e. absurd (c .if1 .left (c .before .kind .ensures ∙ e))))
 
 returns : tie.Need-returns Inv-loop μ-loop Inv-leaves μ-leaves
 returns c =
-    let s : c .before .leaves .next ≡ countOf (c .before .before .before .before .args .tree .now) = omega (arith, c .leaves-test .left, c .before .before .before .before .pre .nodes) in
+    let earlier = c .before .before .before .before in
+    let s : c .before .leaves .next ≡ countOf (earlier .args .tree .now) = omega (arith, c .leaves-test .left, earlier .pre .nodes) in
     rw (c .before .leaves .inv .1) (rw s at (c .before .leaves .inv .2))
 
 returns-2 : tie.Need-returns-2 Inv-loop μ-loop Inv-leaves μ-leaves

@@ -30,18 +30,21 @@ path-to-requires c κs =
 
 place-requires : tie.Need-place-requires
 place-requires c κs =
+    let earlier = c .before .before .before .before .before .before .before in
     let w : FirstWrong _ _ _ _ _ = rw (c .before .before .found .given .1) at (c .before .before .before .before .first-wrong .ensures) in
-    omega (arith, w .here, sized (c .before .before .before .before .before .before .before .args .tree .now) (good-counted _ _ (c .before .before .before .before .before .before .before .args .tree .now) (c .before .before .before .before .before .before .before .pre .1 .good)) .bytes)
+    omega (arith, w .here, sized (earlier .args .tree .now) (good-counted _ _ (earlier .args .tree .now) (earlier .pre .1 .good)) .bytes)
 
 row-requires : tie.Need-row-requires
 row-requires c κs =
-    let w : FirstWrong _ _ _ _ _ = rw (c .before .before .before .found .given .1) at (c .before .before .before .before .before .first-wrong .ensures) in
-    (c .before .before .before .before .before .before .before .before .pre .1 .room, omega (arith, w .by, c .before .before .before .before .before .before .before .before .pre .1 .within))
+    let earlier = c .before .before .before .before .before in
+    let w : FirstWrong _ _ _ _ _ = rw (c .before .before .before .found .given .1) at (earlier .first-wrong .ensures) in
+    (earlier .before .before .before .pre .1 .room, omega (arith, w .by, earlier .before .before .before .pre .1 .within))
 
 add-own : tie.Need-add-own
 add-own c =
-    let w : FirstWrong _ _ _ _ _ = rw (c .before .before .before .before .before .found .given .1) at (c .before .before .before .before .before .before .before .first-wrong .ensures) in
-    omega (arith, w .by, c .before .before .before .before .before .before .before .before .before .before .pre .1 .low)
+    let earlier = c .before .before .before .before .before in
+    let w : FirstWrong _ _ _ _ _ = rw (earlier .found .given .1) at (earlier .before .before .first-wrong .ensures) in
+    omega (arith, w .by, earlier .before .before .before .before .before .pre .1 .low)
 
 word-against-requires : tie.Need-word-against-requires
 word-against-requires c κs = search needs
@@ -51,15 +54,18 @@ context-against-requires c κs = search needs
 
 returns : tie.Need-returns
 returns c =
-    let s = c .before .before .before .before .before in
-    accepted (s .args .desc .now) _ (λ i. omega (arith, c .before .before .before .before .shared-slice-known .given i)) (s .pre .0) _ _ _ (s .pre .1) (rw (c .enum-told .given .1) at (c .before .before .first-wrong .ensures))
+    let earlier = c .before .before in
+    let s = earlier .before .before .before in
+    accepted (s .args .desc .now) _ (λ i. omega (arith, earlier .before .before .shared-slice-known .given i)) (s .pre .0) _ _ _ (s .pre .1) (rw (c .enum-told .given .1) at (earlier .first-wrong .ensures))
 
 returns-2 : tie.Need-returns-2
 returns-2 c =
-    let s = c .before .before .before .before .before .before .before .before .before .before .before .before in
-    let w : FirstWrong _ _ _ _ _ = rw (c .before .before .before .before .before .before .before .found .given .1) at (c .before .before .before .before .before .before .before .before .before .first-wrong .ensures) in
+    let earlier = c .before .before .before .before .before .before .before in
+    let earliest = earlier .before .before in
+    let s = earliest .before .before .before in
+    let w : FirstWrong _ _ _ _ _ = rw (earlier .found .given .1) at (earliest .first-wrong .ensures) in
     rw (c .before .word-against .ensures, c .context-against .ensures)
-    (rejected (s .args .desc .now) _ (λ i. omega (arith, c .before .before .before .before .before .before .before .before .before .before .before .shared-slice-known .given i)) (s .pre .0) _ _ _ (s .pre .1) _ _ _ _ _ w (c .before .before .before .before .place .ensures) (c .before .before .before .before .before .path-to .ensures) (c .before .before .before .row .ensures))
+    (rejected (s .args .desc .now) _ (λ i. omega (arith, earliest .before .before .shared-slice-known .given i)) (s .pre .0) _ _ _ (s .pre .1) _ _ _ _ _ w (c .before .before .before .before .place .ensures) (c .before .before .before .before .before .path-to .ensures) (c .before .before .before .row .ensures))
 
 pub judge-spec : {M : Type 1} → statement M
 judge-spec =

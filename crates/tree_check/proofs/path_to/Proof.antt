@@ -31,13 +31,15 @@ bit-requires c κs =
 
 place-requires : tie.Need-place-requires Inv-loop μ-loop
 place-requires c κs =
-    let q = stand-test _ _ _ _ (c .before .before .before .loop .inv) (c .before .before .loop-test .taken) in
-    omega (arith, q .here, c .before .before .before .loop .inv .bytes)
+    let earlier = c .before .before in
+    let q = stand-test _ _ _ _ (earlier .before .loop .inv) (earlier .loop-test .taken) in
+    omega (arith, q .here, earlier .before .loop .inv .bytes)
 
 side-of-requires : tie.Need-side-of-requires Inv-loop μ-loop
 side-of-requires c κs =
-    let q = stand-test _ _ _ _ (c .before .before .before .before .before .loop .inv) (c .before .before .before .before .loop-test .taken) in
-    rw (c .before .before .bit .ensures, c .before .before .before .kind .ensures) (q .low, q .narrow, omega arith)
+    let earlier = c .before .before in
+    let q = stand-test _ _ _ _ (earlier .before .before .before .loop .inv) (earlier .before .before .loop-test .taken) in
+    rw (earlier .bit .ensures, earlier .before .kind .ensures) (q .low, q .narrow, omega arith)
 
 add-t : tie.Need-add-t Inv-loop μ-loop
 add-t c = omega arith
@@ -47,23 +49,28 @@ loop-less c = omega arith
 
 loop-again : tie.Need-loop-again Inv-loop μ-loop
 loop-again c =
-    rw (c .side-of .ensures, c .before .before .before .before .kind .ensures, c .before .before .before .bit .ensures)
-    (stand-zero _ _ _ _ (c .before .before .before .before .before .before .loop .inv) (c .before .before .before .before .before .loop-test .taken) (rw (c .before .before .place .ensures) at (c .before .if1 .taken)))
+    let earlier = c .before .before .before in
+    rw (c .side-of .ensures, earlier .before .kind .ensures, earlier .bit .ensures)
+    (stand-zero _ _ _ _ (earlier .before .before .before .loop .inv) (earlier .before .before .loop-test .taken) (rw (c .before .before .place .ensures) at (c .before .if1 .taken)))
 
 side-of-requires-2 : tie.Need-side-of-requires-2 Inv-loop μ-loop
 side-of-requires-2 c κs =
-    let q = stand-test _ _ _ _ (c .before .before .before .before .before .loop .inv) (c .before .before .before .before .loop-test .taken) in
-    rw (c .before .before .bit .ensures, c .before .before .before .kind .ensures) (q .low, q .narrow, omega arith)
+    let earlier = c .before .before in
+    let q = stand-test _ _ _ _ (earlier .before .before .before .loop .inv) (earlier .before .before .loop-test .taken) in
+    rw (earlier .bit .ensures, earlier .before .kind .ensures) (q .low, q .narrow, omega arith)
 
 loop-less-2 : tie.Need-loop-less-2 Inv-loop μ-loop
 loop-less-2 c =
-    let q = stand-test _ _ _ _ (c .before .before .before .before .before .before .loop .inv) (c .before .before .before .before .before .loop-test .taken) in
+    let earlier = c .before .before .before .before .before in
+    let q = stand-test _ _ _ _ (earlier .before .loop .inv) (earlier .loop-test .taken) in
     omega (arith, q .ahead, c .before .before .place .ensures)
 
 loop-again-2 : tie.Need-loop-again-2 Inv-loop μ-loop
 loop-again-2 c =
-    rw (c .side-of2 .ensures, c .before .before .before .before .kind .ensures, c .before .before .before .bit .ensures, c .before .before .place .ensures)
-    (stand-one _ _ _ _ (c .before .before .before .before .before .before .loop .inv) (c .before .before .before .before .before .loop-test .taken) (rw (c .before .before .place .ensures) at (c .before .if1 .left)))
+    let earlier = c .before .before in
+    let earliest = earlier .before .before in
+    rw (c .side-of2 .ensures, earliest .kind .ensures, earlier .before .bit .ensures, earlier .place .ensures)
+    (stand-one _ _ _ _ (earliest .before .before .loop .inv) (earliest .before .loop-test .taken) (rw (earlier .place .ensures) at (c .before .if1 .left)))
 
 returns : tie.Need-returns Inv-loop μ-loop
 returns c = stand-done _ _ _ _ (c .before .loop .inv) (c .loop-test .left)

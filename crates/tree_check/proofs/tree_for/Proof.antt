@@ -21,7 +21,8 @@ enum-told c = search needs
 
 word-requires : tie.Need-word-requires
 word-requires c κs =
-    omega (arith, sized (c .before .before .before .before .before .args .tree .now) (good-counted _ _ (c .before .before .before .before .before .args .tree .now) (sym (c .before .before .form .ensures) ∙ c .enum-told .given .1)) .bytes)
+    let earlier = c .before .before .before .before .before in
+    omega (arith, sized (earlier .args .tree .now) (good-counted _ _ (earlier .args .tree .now) (sym (c .before .before .form .ensures) ∙ c .enum-told .given .1)) .bytes)
 
 cast-count : tie.Need-cast-count
 cast-count c = search needs
@@ -49,10 +50,14 @@ returns : tie.Need-returns
 returns c = rw (sym (c .before .before .before .form .ensures) ∙ c .before .form2 .given .1)
 
 returns-2 : tie.Need-returns-2
-returns-2 c = rw (sym (c .before .before .before .before .before .before .form .ensures) ∙ c .before .before .before .before .enum-told .given .1) (c .before .before .judge .result, rw (c .enum-told2 .given .1), c .before .before .judge .ensures)
+returns-2 c =
+    let earlier = c .before .before in
+    rw (sym (earlier .before .before .before .before .form .ensures) ∙ earlier .before .before .enum-told .given .1) (earlier .judge .result, rw (c .enum-told2 .given .1), earlier .judge .ensures)
 
 returns-3 : tie.Need-returns-3
-returns-3 c = rw (sym (c .before .before .before .before .before .before .before .form .ensures) ∙ c .before .before .before .before .before .enum-told .given .1) (c .before .before .before .judge .result, rw (c .before .verdict .given .1), c .before .before .before .judge .ensures)
+returns-3 c =
+    let earlier = c .before .before .before in
+    rw (sym (earlier .before .before .before .before .form .ensures) ∙ earlier .before .before .enum-told .given .1) (earlier .judge .result, rw (c .before .verdict .given .1), earlier .judge .ensures)
 
 pub tree-for-spec : {M : Type 1} → statement M
 tree-for-spec =

@@ -13,15 +13,20 @@ table-of-requires : tie.Need-table-of-requires
 table-of-requires c κs = search needs
 
 returns : tie.Need-returns
-returns c = rw (absent _ (obeyed _ _ (c .before .before .before .before .before .pre)) _ _ _ (c .before .before .table-of .ensures .0) (c .before .before .table-of .ensures .1) (c .if1 .taken))
+returns c =
+    let earlier = c .before .before in
+    rw (absent _ (obeyed _ _ (earlier .before .before .before .pre)) _ _ _ (earlier .table-of .ensures .0) (earlier .table-of .ensures .1) (c .if1 .taken))
 
 tree-for-requires : tie.Need-tree-for-requires
-tree-for-requires c κs = (c .before .before .before .before .before .pre, rw constructors-length at (in-section _ (obeyed _ _ (c .before .before .before .before .before .pre)) _ _ _ (c .before .before .table-of .ensures .0) (c .before .before .table-of .ensures .1)))
+tree-for-requires c κs =
+    let earlier = c .before .before in
+    (earlier .before .before .before .pre, rw constructors-length at (in-section _ (obeyed _ _ (earlier .before .before .before .pre)) _ _ _ (earlier .table-of .ensures .0) (earlier .table-of .ensures .1)))
 
 returns-2 : tie.Need-returns-2
 returns-2 c =
-    rw (there _ (obeyed _ _ (c .before .before .before .before .before .before .pre)) _ _ _ (c .before .before .before .table-of .ensures .0) (c .before .before .before .table-of .ensures .1) (c .before .if1 .left))
-    (rw (c .before .before .before .table-of .ensures .0, c .before .before .before .table-of .ensures .1) at (c .tree-for .ensures))
+    let earlier = c .before .before .before in
+    rw (there _ (obeyed _ _ (earlier .before .before .before .pre)) _ _ _ (earlier .table-of .ensures .0) (earlier .table-of .ensures .1) (c .before .if1 .left))
+    (rw (earlier .table-of .ensures .0, earlier .table-of .ensures .1) at (c .tree-for .ensures))
 
 pub tree-in-spec : {M : Type 1} → statement M
 tree-in-spec = tie.close (tie.spec table-of-requires returns tree-for-requires returns-2)

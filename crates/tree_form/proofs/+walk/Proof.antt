@@ -70,11 +70,12 @@ walk-bit t c = rw (c .bit .ensures, c .before .before .kind .ensures) (bit-fits 
 walk-half : (t : ℕ) (c : walk-lts.After-walk (walk-claims t) (walk-at t) walk.Post)
     → Half (c .before .before .before .before .before .before .before .before .before .args .first) (c .before .before .before .before .before .before .before .before .before .args .n) (c .before .before .before .before .before .before .before .before .before .args .tree .now) (c .before .before .before .before .before .before .before .before .before .args .p) (c .before .before .before .before .before .before .before .before .before .args .i) (c .before .side-of .result) (c .walk .result)
 walk-half t c =
+    let earlier = c .before .before .before in
     record {
-      here = walk-here t (c .before .before .before .before .before .before .before);
-      good = walk-good t (c .before .before .before .before .before);
-      test = walk-test t (c .before .before .before);
-      path = rw (c .before .before .before .before .kind .ensures, c .before .before .bit .ensures) at (c .before .side-of .ensures);
+      here = walk-here t (earlier .before .before .before .before);
+      good = walk-good t (earlier .before .before);
+      test = walk-test t earlier;
+      path = rw (earlier .before .kind .ensures, c .before .before .bit .ensures) at (c .before .side-of .ensures);
       walked = c .walk .ensures;
     }
 
@@ -109,15 +110,20 @@ walk-enum-known-zero : (t : ℕ) → walk-lts.Need-enum-known-zero (walk-claims 
 walk-enum-known-zero t c = search needs
 
 walk-side-of-requires-2 : (t : ℕ) → walk-lts.Need-side-of-requires-2 (walk-claims t) (walk-at t) walk.Post
-walk-side-of-requires-2 t c κs = (walk-bit t (c .before .before .before .before .before) .0, walk-bit t (c .before .before .before .before .before) .1, omega arith)
+walk-side-of-requires-2 t c κs =
+    let earlier = c .before .before .before .before .before in
+    (walk-bit t earlier .0, walk-bit t earlier .1, omega arith)
 
 walk-walk-requires-2 : (t : ℕ) → walk-lts.Need-walk-requires-2 (walk-claims t) (walk-at t) walk.Post
 walk-walk-requires-2 t c κs =
+    let earlier = c .before .before .before .before .before .before .before .before .before .before .before in
     let h = zero-next (walk-half t (c .before .before .before .before)) _ _ (c .before .before .zero .given .1) in
-    (omega arith, (c .before .before .before .before .before .before .before .before .before .before .before .before .before .pre .1 .0, c .before .before .before .before .before .before .before .before .before .before .before .before .before .pre .1 .1))
+    (omega arith, (earlier .before .before .pre .1 .0, earlier .before .before .pre .1 .1))
 
 walk-place-requires : (t : ℕ) → walk-lts.Need-place-requires (walk-claims t) (walk-at t) walk.Post
-walk-place-requires t c κs = omega (arith, c .before .before .before .before .before .before .before .before .before .before .before .before .if1 .left, c .before .before .before .before .before .before .before .before .before .before .before .before .before .before .pre .1 .0 .1)
+walk-place-requires t c κs =
+    let earlier = c .before .before .before .before .before .before .before .before .before .before .before in
+    omega (arith, earlier .before .if1 .left, earlier .before .before .before .pre .1 .0 .1)
 
 walk-own-side-requires : (t : ℕ) → walk-lts.Need-own-side-requires (walk-claims t) (walk-at t) walk.Post
 walk-own-side-requires t c κs = search needs
@@ -133,9 +139,11 @@ walk-enum-told t c = search needs
 
 walk-returns-3 : (t : ℕ) → walk-lts.Need-returns-3 (walk-claims t) (walk-at t) walk.Post
 walk-returns-3 t c =
+    let earlier = c .before .before .before .before .before .before in
+    let earliest = earlier .before .before in
     rw (c .close .ensures, c .before .own-side .ensures, c .before .before .place .ensures)
-    (walk-both (walk-half t (c .before .before .before .before .before .before .before .before)) _ _ (c .before .before .before .before .before .before .zero .given .1) _ _
-    (rw (c .before .before .before .before .before .before .before .before .before .before .before .before .kind .ensures, c .before .before .before .before .before .before .before .before .before .before .bit .ensures) at (c .before .before .before .before .side-of2 .ensures)) (c .before .before .before .walk2 .ensures))
+    (walk-both (walk-half t earliest) _ _ (earlier .zero .given .1) _ _
+    (rw (earliest .before .before .before .before .kind .ensures, earliest .before .before .bit .ensures) at (c .before .before .before .before .side-of2 .ensures)) (c .before .before .before .walk2 .ensures))
 
 walk-returns-4 : (t : ℕ) → walk-lts.Need-returns-4 (walk-claims t) (walk-at t) walk.Post
 walk-returns-4 t c = zero-fault (walk-half t (c .before .before .before)) _ (c .before .zero2 .given .1)

@@ -24,8 +24,9 @@ cast-count c = search needs
 
 walk-requires : tie.Need-walk-requires
 walk-requires c κs =
-    let h = sized (c .before .before .before .before .args .tree .now) (form-is-counted (c .before)) in
-    rw (c .word .ensures) ((refl, omega (arith, h .bytes), h .few), c .before .before .before .before .pre)
+    let earlier = c .before .before .before .before in
+    let h = sized (earlier .args .tree .now) (form-is-counted (c .before)) in
+    rw (c .word .ensures) ((refl, omega (arith, h .bytes), h .few), earlier .pre)
 
 end-requires : tie.Need-end-requires
 end-requires c κs = search needs

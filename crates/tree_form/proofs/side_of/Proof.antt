@@ -10,7 +10,9 @@ shl-t11 : tie.Need-shl-t11
 shl-t11 c = search needs
 
 returns : tie.Need-returns
-returns c = side-byte _ _ _ _ (c .before .before .if1 .taken) (c .before .before .before .pre .0) (c .before .before .before .pre .2)
+returns c =
+    let earlier = c .before .before in
+    side-byte _ _ _ _ (earlier .if1 .taken) (earlier .before .pre .0) (earlier .before .pre .2)
 
 shl-t14 : tie.Need-shl-t14
 shl-t14 c = c .before .pre .1 (c .if1 .left)
@@ -19,7 +21,9 @@ shl-t17 : tie.Need-shl-t17
 shl-t17 c = c .before .before .pre .1 (c .before .if1 .left)
 
 returns-2 : tie.Need-returns-2
-returns-2 c = side-context _ _ _ _ (c .before .before .if1 .left) (c .before .before .before .pre .1 (c .before .before .if1 .left)) (c .before .before .before .pre .2)
+returns-2 c =
+    let earlier = c .before .before in
+    side-context _ _ _ _ (earlier .if1 .left) (earlier .before .pre .1 (earlier .if1 .left)) (earlier .before .pre .2)
 
 pub side-of-spec : {M : Type 1} → statement M
 side-of-spec = tie.close (tie.spec shl-t7 shl-t11 returns shl-t14 shl-t17 returns-2)

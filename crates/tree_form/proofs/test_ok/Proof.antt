@@ -23,7 +23,9 @@ fresh-requires-2 : tie.Need-fresh-requires-2
 fresh-requires-2 c κs = search needs
 
 returns-2 : tie.Need-returns-2
-returns-2 c = c .fresh2 .ensures ∙ rw (c .before .before .before .before .bit .ensures) (sym (test-context _ _ _ (sym (c .before .before .before .before .before .kind .ensures) ∙ c .before .before .if2 .taken)))
+returns-2 c =
+    let earlier = c .before .before in
+    c .fresh2 .ensures ∙ rw (earlier .before .before .bit .ensures) (sym (test-context _ _ _ (sym (earlier .before .before .before .kind .ensures) ∙ earlier .if2 .taken)))
 
 returns-3 : tie.Need-returns-3
 returns-3 c = sym (test-none _ _ _ (λ e. c .before .if1 .left (c .before .before .before .kind .ensures ∙ e)) (λ e. c .if2 .left (c .before .before .before .kind .ensures ∙ e)))

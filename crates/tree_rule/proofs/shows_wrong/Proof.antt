@@ -25,7 +25,9 @@ returns-2 c = rw (c .before .if2 .taken, c .lies-inside .ensures)
 
 returns-3 : tie.Need-returns-3
 unfolding refutes
-returns-3 c = rw (c .before .if2 .left, ← c .before .before .before .overlaps .ensures, not-false (c .before .before .before .overlaps .result) (c .before .before .if1 .left), c .if3 .taken)
+returns-3 c =
+    let earlier = c .before .before in
+    rw (c .before .if2 .left, ← earlier .before .overlaps .ensures, not-false (earlier .before .overlaps .result) (earlier .if1 .left), c .if3 .taken)
 
 lies-inside-requires-2 : tie.Need-lies-inside-requires-2
 lies-inside-requires-2 c κs = search needs
@@ -35,7 +37,9 @@ lies-inside-requires-3 c κs = search needs
 
 returns-4 : tie.Need-returns-4
 unfolding refutes
-returns-4 c = rw (c .before .before .before .if2 .left, ← c .before .before .before .before .before .overlaps .ensures, not-false (c .before .before .before .before .before .overlaps .result) (c .before .before .before .before .if1 .left), c .before .before .if3 .left, c .before .lies-inside2 .ensures, c .lies-inside3 .ensures)
+returns-4 c =
+    let earlier = c .before .before .before in
+    rw (earlier .if2 .left, ← earlier .before .before .overlaps .ensures, not-false (earlier .before .before .overlaps .result) (earlier .before .if1 .left), c .before .before .if3 .left, c .before .lies-inside2 .ensures, c .lies-inside3 .ensures)
 
 pub shows-wrong-spec : {M : Type 1} → statement M
 shows-wrong-spec =

@@ -24,10 +24,11 @@ loop-holds : tie.Need-loop-holds Inv-loop μ-loop
 loop-holds c = (omega arith, sym (all-none (ok (c .before .args .desc .now) (c .before .args .start))))
 
 loop-again : tie.Need-loop-again Inv-loop μ-loop
-loop-again c = (
-  omega arith,
-  rw (all-next (ok (c .before .before .before .before .before .args .desc .now) (c .before .before .before .before .before .args .start)) (c .before .before .before .loop .i), c .before .before .before .loop .inv .1, c .letter-ok .ensures),
-)
+loop-again c =
+    let earlier = c .before .before .before in (
+      omega arith,
+      rw (all-next (ok (earlier .before .before .args .desc .now) (earlier .before .before .args .start)) (earlier .loop .i), earlier .loop .inv .1, c .letter-ok .ensures),
+    )
 
 returns : tie.Need-returns Inv-loop μ-loop
 returns c =

@@ -27,11 +27,12 @@ loop-holds : tie.Need-loop-holds Inv-loop μ-loop
 loop-holds c = (omega arith, sym (all-none (ok _ _)))
 
 loop-again : tie.Need-loop-again Inv-loop μ-loop
-loop-again c = (
-  omega arith,
-  all-keep (ok _ _) (c .before .before .before .loop .i) (c .before .before .before .loop .good) (c .piece-ok .result) (c .before .before .before .loop .inv .1)
-      (λ _. c .piece-ok .ensures ∙ rw (c .before .piece-at .ensures)),
-)
+loop-again c =
+    let earlier = c .before .before .before in (
+      omega arith,
+      all-keep (ok _ _) (earlier .loop .i) (earlier .loop .good) (c .piece-ok .result) (earlier .loop .inv .1)
+          (λ _. c .piece-ok .ensures ∙ rw (c .before .piece-at .ensures)),
+    )
 
 returns : tie.Need-returns Inv-loop μ-loop
 returns c =

@@ -27,9 +27,10 @@ constructor-ok-requires c κs =
 
 loop-again : tie.Need-loop-again Inv-loop μ-loop
 loop-again c =
-    rw (c .before .before .before .constructor .ensures)
-    (search-step (c .before .before .before .before .before .loop .inv) (c .before .before .before .before .loop-test .taken)
-    (sym (c .before .before .constructor-ok .ensures) ∙ c .before .if1 .taken))
+    let earlier = c .before .before in
+    rw (earlier .before .constructor .ensures)
+    (search-step (earlier .before .before .before .loop .inv) (earlier .before .before .loop-test .taken)
+    (sym (earlier .constructor-ok .ensures) ∙ c .before .if1 .taken))
 
 returns : tie.Need-returns Inv-loop μ-loop
 unfolding badConstructor constructorsOf

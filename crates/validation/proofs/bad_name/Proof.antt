@@ -20,17 +20,19 @@ abbrev μ-loop : tie.MeasureT-loop
 
 loop-again : tie.Need-loop-again Inv-loop μ-loop
 loop-again c =
-    let read = c .before .before .before .name .ensures in
+    let earlier = c .before .before in
+    let read = earlier .before .name .ensures in
     rw read
-    (search-step (c .before .before .before .before .before .loop .inv) (c .before .before .before .before .loop-test .taken)
-    (rw read at (sym (c .before .before .name-ok .ensures) ∙ c .before .if1 .taken)))
+    (search-step (earlier .before .before .before .loop .inv) (earlier .before .before .loop-test .taken)
+    (rw read at (sym (earlier .name-ok .ensures) ∙ c .before .if1 .taken)))
 
 returns : tie.Need-returns Inv-loop μ-loop
 unfolding badName namesOf
 returns c =
+    let earlier = c .before .before in
     rw text-length
-    (search-stop (c .before .before .before .before .loop .inv) (c .before .before .before .loop-test .taken)
-    (rw (c .before .before .name .ensures) at (sym (c .before .name-ok .ensures) ∙ c .if1 .left)))
+    (search-stop (earlier .before .before .loop .inv) (earlier .before .loop-test .taken)
+    (rw (earlier .name .ensures) at (sym (c .before .name-ok .ensures) ∙ c .if1 .left)))
 
 returns-2 : tie.Need-returns-2 Inv-loop μ-loop
 unfolding badName namesOf

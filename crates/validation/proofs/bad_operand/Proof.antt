@@ -19,16 +19,18 @@ abbrev μ-loop : tie.MeasureT-loop
 
 loop-again : tie.Need-loop-again Inv-loop μ-loop
 loop-again c =
-    let read = c .before .before .before .operand .ensures in
+    let earlier = c .before .before in
+    let read = earlier .before .operand .ensures in
     rw read
-    (search-step (c .before .before .before .before .before .loop .inv) (c .before .before .before .before .loop-test .taken)
-    (rw read at (sym (c .before .before .operand-ok .ensures) ∙ c .before .if1 .taken)))
+    (search-step (earlier .before .before .before .loop .inv) (earlier .before .before .loop-test .taken)
+    (rw read at (sym (earlier .operand-ok .ensures) ∙ c .before .if1 .taken)))
 
 returns : tie.Need-returns Inv-loop μ-loop
 unfolding badOperand operandsOf
 returns c =
-    search-stop (c .before .before .before .before .loop .inv) (c .before .before .before .loop-test .taken)
-    (rw (c .before .before .operand .ensures) at (sym (c .before .operand-ok .ensures) ∙ c .if1 .left))
+    let earlier = c .before .before in
+    search-stop (earlier .before .before .loop .inv) (earlier .before .loop-test .taken)
+    (rw (earlier .operand .ensures) at (sym (c .before .operand-ok .ensures) ∙ c .if1 .left))
 
 returns-2 : tie.Need-returns-2 Inv-loop μ-loop
 unfolding badOperand operandsOf

@@ -11,15 +11,23 @@ returns c = rw (fields-length, ← c .before .before .bad-field .ensures, lt-ltb
 
 returns-2 : tie.Need-returns-2
 unfolding faultOf
-returns-2 c = rw (fields-length, ← c .before .before .before .before .before .bad-field .ensures, le-ltb _ _ (c .before .before .before .if1 .left), names-length, ← c .before .before .bad-name .ensures, lt-ltb _ _ (c .if2 .taken))
+returns-2 c =
+    let earlier = c .before .before in
+    rw (fields-length, ← earlier .before .before .before .bad-field .ensures, le-ltb _ _ (earlier .before .if1 .left), names-length, ← earlier .bad-name .ensures, lt-ltb _ _ (c .if2 .taken))
 
 returns-3 : tie.Need-returns-3
 unfolding faultOf
-returns-3 c = rw (fields-length, ← c .before .before .before .before .before .before .before .before .before .before .bad-field .ensures, le-ltb _ _ (c .before .before .before .before .before .before .before .before .if1 .left), names-length, ← c .before .before .before .before .before .before .before .bad-name .ensures, le-ltb _ _ (c .before .before .before .before .before .if2 .left), constructors-length, ← c .before .before .bad-constructor .ensures, lt-ltb _ _ (c .if3 .taken))
+returns-3 c =
+    let earlier = c .before .before .before .before .before in
+    let earliest = earlier .before .before in
+    rw (fields-length, ← earliest .before .before .before .bad-field .ensures, le-ltb _ _ (earliest .before .if1 .left), names-length, ← earliest .bad-name .ensures, le-ltb _ _ (earlier .if2 .left), constructors-length, ← c .before .before .bad-constructor .ensures, lt-ltb _ _ (c .if3 .taken))
 
 returns-4 : tie.Need-returns-4
 unfolding faultOf
-returns-4 c = rw (fields-length, ← c .before .before .before .before .before .before .before .before .before .before .before .bad-field .ensures, le-ltb _ _ (c .before .before .before .before .before .before .before .before .before .if1 .left), names-length, ← c .before .before .before .before .before .before .before .before .bad-name .ensures, le-ltb _ _ (c .before .before .before .before .before .before .if2 .left), constructors-length, ← c .before .before .before .bad-constructor .ensures, le-ltb _ _ (c .before .if3 .left)) (c .part-fault .ensures)
+returns-4 c =
+    let earlier = c .before .before .before .before .before .before in
+    let earliest = earlier .before .before in
+    rw (fields-length, ← earliest .before .before .before .bad-field .ensures, le-ltb _ _ (earliest .before .if1 .left), names-length, ← earliest .bad-name .ensures, le-ltb _ _ (earlier .if2 .left), constructors-length, ← c .before .before .before .bad-constructor .ensures, le-ltb _ _ (c .before .if3 .left)) (c .part-fault .ensures)
 
 pub first-fault-spec : {M : Type 1} → statement M
 first-fault-spec =

@@ -11,15 +11,21 @@ returns c = rw (operands-length, ← c .before .before .bad-operand .ensures, lt
 
 returns-2 : tie.Need-returns-2
 unfolding partFault
-returns-2 c = rw (operands-length, ← c .before .before .before .before .before .bad-operand .ensures, le-ltb _ _ (c .before .before .before .if1 .left), pieces-length, ← c .before .before .bad-piece .ensures, lt-ltb _ _ (c .if2 .taken))
+returns-2 c =
+    let earlier = c .before .before in
+    rw (operands-length, ← earlier .before .before .before .bad-operand .ensures, le-ltb _ _ (earlier .before .if1 .left), pieces-length, ← earlier .bad-piece .ensures, lt-ltb _ _ (c .if2 .taken))
 
 returns-3 : tie.Need-returns-3
 unfolding partFault
-returns-3 c = rw (operands-length, ← c .before .before .before .before .before .before .before .before .bad-operand .ensures, le-ltb _ _ (c .before .before .before .before .before .before .if1 .left), pieces-length, ← c .before .before .before .before .before .bad-piece .ensures, le-ltb _ _ (c .before .before .before .if2 .left), text-length, ← c .before .before .bad-letter .ensures, lt-ltb _ _ (c .if3 .taken))
+returns-3 c =
+    let earlier = c .before .before .before .before .before in
+    rw (operands-length, ← earlier .before .before .before .bad-operand .ensures, le-ltb _ _ (earlier .before .if1 .left), pieces-length, ← earlier .bad-piece .ensures, le-ltb _ _ (c .before .before .before .if2 .left), text-length, ← c .before .before .bad-letter .ensures, lt-ltb _ _ (c .if3 .taken))
 
 returns-4 : tie.Need-returns-4
 unfolding partFault
-returns-4 c = rw (operands-length, ← c .before .before .before .before .before .before .before .before .bad-operand .ensures, le-ltb _ _ (c .before .before .before .before .before .before .if1 .left), pieces-length, ← c .before .before .before .before .before .bad-piece .ensures, le-ltb _ _ (c .before .before .before .if2 .left), text-length, ← c .before .before .bad-letter .ensures, le-ltb _ _ (c .if3 .left))
+returns-4 c =
+    let earlier = c .before .before .before .before .before in
+    rw (operands-length, ← earlier .before .before .before .bad-operand .ensures, le-ltb _ _ (earlier .before .if1 .left), pieces-length, ← earlier .bad-piece .ensures, le-ltb _ _ (c .before .before .before .if2 .left), text-length, ← c .before .before .bad-letter .ensures, le-ltb _ _ (c .if3 .left))
 
 pub part-fault-spec : {M : Type 1} → statement M
 part-fault-spec =

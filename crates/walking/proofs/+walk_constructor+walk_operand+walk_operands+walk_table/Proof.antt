@@ -131,9 +131,10 @@ walk-constructor-one-more-requires t c κs = c .before .before .before .before .
 
 walk-constructor-walk-operands-requires : (t : ℕ) → walk-constructor-lts.Need-walk-operands-requires (walk-constructor-claims t) (walk-constructor-at t) walk-constructor.Post
 walk-constructor-walk-operands-requires t c κs =
-    let ready = c .before .before .before .before .before .pre .1 in
+    let earlier = c .before .before .before .before .before in
+    let ready = earlier .pre .1 in
     let more = ap used (c .one-more .ensures) in (
-      omega (arith, c .before .before .before .before .before .pre .0, more, ready .own .room),
+      omega (arith, earlier .pre .0, more, ready .own .room),
       stayed _ _ _ _ _ ready _ (omega (arith, more, ready .own .room))
           (record { usable = rw (c .before .before .constructor .ensures) (usable _ (obeyed-in _ _ (ready .fixed)) _ (ready .own .within)); near = ready .own .near }),
     )
@@ -143,9 +144,10 @@ walk-constructor-wide-requires t c κs = search needs
 
 walk-constructor-close-requires : (t : ℕ) → walk-constructor-lts.Need-close-requires (walk-constructor-claims t) (walk-constructor-at t) walk-constructor.Post
 walk-constructor-close-requires t c κs =
-    let ready = c .before .before .before .before .before .before .before .before .before .pre .1 in (
+    let earlier = c .before .before .before in
+    let ready = earlier .before .before .before .before .before .before .pre .1 in (
       (omega (arith, few-in _ _ (ready .fixed), ready .own .within), c .before .wide .ensures .1, ready .own .near, ready .own .room),
-      rw (c .before .before .before .before .one-more .ensures) at (within _ _ _ _ _ _ _ _ (c .before .before .before .walk-operands .ensures)),
+      rw (earlier .before .one-more .ensures) at (within _ _ _ _ _ _ _ _ (earlier .walk-operands .ensures)),
     )
 
 walk-constructor-same-length : (t : ℕ) → walk-constructor-lts.Need-same-length (walk-constructor-claims t) (walk-constructor-at t) walk-constructor.Post
@@ -153,8 +155,9 @@ walk-constructor-same-length t c = search needs
 
 walk-constructor-returns : (t : ℕ) → walk-constructor-lts.Need-returns (walk-constructor-claims t) (walk-constructor-at t) walk-constructor.Post
 walk-constructor-returns t c =
-    constructor-closes _ _ _ _ _ _ _ _ _ _ _ _ _ _ _ (c .before .before .before .before .before .before .before .before .constructor .ensures) (c .before .before .before .wide .ensures .0) (c .before .before .before .before .before .before .one-more .ensures) (total-in _ _)
-    (c .before .before .before .before .before .walk-operands .ensures) (c .before .close .ensures)
+    let earlier = c .before .before .before .before .before in
+    constructor-closes _ _ _ _ _ _ _ _ _ _ _ _ _ _ _ (earlier .before .before .before .constructor .ensures) (c .before .before .before .wide .ensures .0) (earlier .before .one-more .ensures) (total-in _ _)
+    (earlier .walk-operands .ensures) (c .before .close .ensures)
 
 walk-operand-smaller-requires : (t : ℕ) → walk-operand-lts.Need-smaller-requires (walk-operand-claims t) (walk-operand-at t) walk-operand.Post
 walk-operand-smaller-requires t c κs = search needs
@@ -173,14 +176,17 @@ walk-operand-part-field-from-end t c = search needs
 
 walk-operand-field-from-requires : (t : ℕ) → walk-operand-lts.Need-field-from-requires (walk-operand-claims t) (walk-operand-at t) walk-operand.Post
 walk-operand-field-from-requires t c κs =
-    let ready = c .before .before .before .before .before .before .before .pre .1 in
-    moved _ _ _ _ _ ready _ _ (c .before .before .before .before .smaller .ensures) (ready .own .near) (ready .own .small) (ready .own .placed .field (c .before .before .if1 .taken))
+    let earlier = c .before .before in
+    let ready = earlier .before .before .before .before .before .pre .1 in
+    moved _ _ _ _ _ ready _ _ (earlier .before .before .smaller .ensures) (ready .own .near) (ready .own .small) (ready .own .placed .field (earlier .if1 .taken))
 
 walk-operand-same-length : (t : ℕ) → walk-operand-lts.Need-same-length (walk-operand-claims t) (walk-operand-at t) walk-operand.Post
 walk-operand-same-length t c = search needs
 
 walk-operand-returns : (t : ℕ) → walk-operand-lts.Need-returns (walk-operand-claims t) (walk-operand-at t) walk-operand.Post
-walk-operand-returns t c = operand-field _ _ _ _ _ _ _ _ _ _ (c .before .before .before .before .before .before .smaller .ensures) (c .before .before .before .before .if1 .taken) (c .before .field-from .ensures)
+walk-operand-returns t c =
+    let earlier = c .before .before .before .before in
+    operand-field _ _ _ _ _ _ _ _ _ _ (earlier .before .before .smaller .ensures) (earlier .if1 .taken) (c .before .field-from .ensures)
 
 walk-operand-sub-walk-table : (t : ℕ) → walk-operand-lts.Need-sub-walk-table (walk-operand-claims t) (walk-operand-at t) walk-operand.Post
 walk-operand-sub-walk-table t c = search needs
@@ -193,16 +199,19 @@ walk-operand-part-walk-table-end t c = search needs
 
 walk-operand-walk-table-requires : (t : ℕ) → walk-operand-lts.Need-walk-table-requires (walk-operand-claims t) (walk-operand-at t) walk-operand.Post
 walk-operand-walk-table-requires t c κs =
-    let ready = c .before .before .before .before .before .before .before .pre .1 in (
-      omega (arith, c .before .before .before .before .before .before .before .pre .0),
-      moved _ _ _ _ _ ready _ _ (c .before .before .before .before .smaller .ensures) (ready .own .near) (ready .own .small) (ready .own .placed .table (c .before .before .if1 .left)),
+    let earlier = c .before .before .before .before in
+    let ready = earlier .before .before .before .pre .1 in (
+      omega (arith, earlier .before .before .before .pre .0),
+      moved _ _ _ _ _ ready _ _ (earlier .smaller .ensures) (ready .own .near) (ready .own .small) (ready .own .placed .table (c .before .before .if1 .left)),
     )
 
 walk-operand-same-length-2 : (t : ℕ) → walk-operand-lts.Need-same-length-2 (walk-operand-claims t) (walk-operand-at t) walk-operand.Post
 walk-operand-same-length-2 t c = search needs
 
 walk-operand-returns-2 : (t : ℕ) → walk-operand-lts.Need-returns-2 (walk-operand-claims t) (walk-operand-at t) walk-operand.Post
-walk-operand-returns-2 t c = operand-table _ _ _ _ _ _ _ _ _ _ (c .before .before .before .before .before .before .smaller .ensures) (c .before .before .before .before .if1 .left) (c .before .walk-table .ensures)
+walk-operand-returns-2 t c =
+    let earlier = c .before .before .before .before in
+    operand-table _ _ _ _ _ _ _ _ _ _ (earlier .before .before .smaller .ensures) (earlier .if1 .left) (c .before .walk-table .ensures)
 
 abbrev walk-operands-Inv-loop : walk-operands-lts.InvT-loop
 walk-operands-Inv-loop desc fixed code at rows₀ first count ends₀ far₀ passed₀ o₀ rows ends far passed o =
@@ -233,14 +242,16 @@ walk-operands-operand-requires t c κs =
 walk-operands-wide-requires-2 : (t : ℕ) → walk-operands-lts.Need-wide-requires-2 (walk-operands-claims t) (walk-operands-at t) walk-operands.Post walk-operands-Inv-loop walk-operands-μ-loop
 walk-operands-wide-requires-2 t c κs = search needs
 
-walk-operands-mul-start : (t : ℕ) → walk-operands-lts.Need-mul-start (walk-operands-claims t) (walk-operands-at t) walk-operands.Post walk-operands-Inv-loop walk-operands-μ-loop
-walk-operands-mul-start t c = search needs
-
 walk-operands-array-read-start : (t : ℕ) → walk-operands-lts.Need-array-read-start (walk-operands-claims t) (walk-operands-at t) walk-operands.Post walk-operands-Inv-loop walk-operands-μ-loop
 walk-operands-array-read-start t c =
-    let ready = c .before .before .before .before .before .before .before .before .pre .1 in
-    let h : c .before .before .before .loop .o < c .before .before .before .before .before .before .before .before .args .constructor .operands .count = rw (c .before .before .before .before .wide .ensures .0) at (c .before .before .loop-test .taken) in
-    omega (arith, c .wide2 .ensures .0 ∙ ap (λ (x : Operand). x .anchor) (c .before .operand .ensures), ready .own .usable .anchored (c .before .before .before .loop .o) h, ready .own .usable .few)
+    let earlier = c .before .before .before in
+    let earliest = earlier .before .before .before .before .before in
+    let ready = earliest .pre .1 in
+    let h : earlier .loop .o < earliest .args .constructor .operands .count = rw (earlier .before .wide .ensures .0) at (c .before .before .loop-test .taken) in
+    omega (arith, c .wide2 .ensures .0 ∙ ap (λ (x : Operand). x .anchor) (c .before .operand .ensures), ready .own .usable .anchored (earlier .loop .o) h, ready .own .usable .few)
+
+walk-operands-cast-start : (t : ℕ) → walk-operands-lts.Need-cast-start (walk-operands-claims t) (walk-operands-at t) walk-operands.Post walk-operands-Inv-loop walk-operands-μ-loop
+walk-operands-cast-start t c = omega (arith, c .before .before .before .loop .inv .nears (c .wide2 .result))
 
 walk-operands-wide-requires-3 : (t : ℕ) → walk-operands-lts.Need-wide-requires-3 (walk-operands-claims t) (walk-operands-at t) walk-operands.Post walk-operands-Inv-loop walk-operands-μ-loop
 walk-operands-wide-requires-3 t c κs = search needs
@@ -250,14 +261,16 @@ walk-operands-add-start t c = omega (arith, c .before .before .before .before .l
 
 walk-operands-walk-operand-requires : (t : ℕ) → walk-operands-lts.Need-walk-operand-requires (walk-operands-claims t) (walk-operands-at t) walk-operands.Post walk-operands-Inv-loop walk-operands-μ-loop
 walk-operands-walk-operand-requires t c κs =
-    let ready = c .before .before .before .before .before .before .before .before .before .before .pre .1 in
-    let h : c .before .before .before .before .before .loop .o < c .before .before .before .before .before .before .before .before .before .before .args .constructor .operands .count = rw (c .before .before .before .before .before .before .wide .ensures .0) at (c .before .before .before .before .loop-test .taken) in (
-      omega (arith, c .before .before .before .before .before .before .before .before .before .before .pre .0, c .before .before .before .before .before .loop .inv .since, c .before .before .before .before .before .loop .inv .few),
-      stayed _ _ _ _ _ ready _ (c .before .before .before .before .before .loop .inv .few)
+    let earlier = c .before .before .before .before .before in
+    let earliest = earlier .before .before .before .before .before in
+    let ready = earliest .pre .1 in
+    let h : earlier .loop .o < earliest .args .constructor .operands .count = rw (earlier .before .wide .ensures .0) at (c .before .before .before .before .loop-test .taken) in (
+      omega (arith, earliest .pre .0, earlier .loop .inv .since, earlier .loop .inv .few),
+      stayed _ _ _ _ _ ready _ (earlier .loop .inv .few)
           (record {
             placed = rw (c .before .before .before .operand .ensures) (ready .own .usable .placed _ h);
             near = ready .own .near;
-            small = omega (arith, c .before .before .before .before .before .loop .inv .nears (c .before .before .wide2 .result), c .before .wide3 .ensures .1);
+            small = omega (arith, earlier .loop .inv .nears (c .before .before .wide2 .result), c .before .wide3 .ensures .1);
           }),
     )
 
@@ -270,12 +283,16 @@ starts-at : (t : ℕ) (c : walk-operands-lts.After-wide3 (walk-operands-claims t
 starts-at t c = rw (c .before .wide2 .ensures .0, c .wide3 .ensures .0)
 
 walk-operands-same-length : (t : ℕ) → walk-operands-lts.Need-same-length (walk-operands-claims t) (walk-operands-at t) walk-operands.Post walk-operands-Inv-loop walk-operands-μ-loop
-walk-operands-same-length t c = c .before .before .before .before .walk-operand .kept .1 .1 .1 .1 .1 .1 .0 ∙ c .before .before .before .before .before .before .before .before .before .before .loop .inv .kept
+walk-operands-same-length t c =
+    let earlier = c .before .before .before .before in
+    earlier .walk-operand .kept .1 .1 .1 .1 .1 .1 .0 ∙ earlier .before .before .before .before .before .before .loop .inv .kept
 
 walk-operands-returns : (t : ℕ) → walk-operands-lts.Need-returns (walk-operands-claims t) (walk-operands-at t) walk-operands.Post walk-operands-Inv-loop walk-operands-μ-loop
 walk-operands-returns t c =
-    rw (c .before .before .before .before .before .before .before .before .before .before .before .wide .ensures .0) at
-    (refused-turn _ _ _ _ _ _ _ _ _ _ _ _ _ (c .before .before .before .before .before .before .before .before .before .before .loop .inv) _ _ _ (c .before .before .before .before .before .before .before .before .before .loop-test .taken) (c .before .before .before .before .before .before .before .before .operand .ensures) (starts-at t (c .before .before .before .before .before .before))
+    let earlier = c .before .before .before .before .before .before in
+    let earliest = earlier .before .before in
+    rw (earliest .before .before .before .wide .ensures .0) at
+    (refused-turn _ _ _ _ _ _ _ _ _ _ _ _ _ (earliest .before .before .loop .inv) _ _ _ (earliest .before .loop-test .taken) (earliest .operand .ensures) (starts-at t earlier)
     (c .before .before .before .before .walk-operand .ensures) _ (c .before .walked .given .1))
 
 walk-operands-enum-known-walked-2 : (t : ℕ) → walk-operands-lts.Need-enum-known-walked-2 (walk-operands-claims t) (walk-operands-at t) walk-operands.Post walk-operands-Inv-loop walk-operands-μ-loop
@@ -283,15 +300,22 @@ walk-operands-enum-known-walked-2 t c = search needs
 
 walk-operands-add-end : (t : ℕ) → walk-operands-lts.Need-add-end (walk-operands-claims t) (walk-operands-at t) walk-operands.Post walk-operands-Inv-loop walk-operands-μ-loop
 walk-operands-add-end t c =
+    let earlier = c .before .before .before .before .before .before in
+    let earliest = earlier .before .before .before .before in
     let w = within _ _ _ _ _ _ _ _ (c .before .before .before .before .walk-operand .ensures) in
-    let bounds : Within (c .before .before .before .before .before .before .before .before .before .before .before .before .before .before .before .args .at + (getD (c .before .before .before .before .before .before .before .before .before .before .loop .ends) (c .before .before .before .before .before .before .before .wide2 .result) 0 + c .before .before .before .before .before .before .wide3 .result)) (c .before .before .before .before .before .before .before .before .before .before .loop .passed .used) (Done (c .before .walked2 .given .0 .0) (c .before .walked2 .given .0 .1 .0)) = rw (c .before .walked2 .given .1) at w in
+    let bounds : Within (earliest .before .before .before .before .before .args .at + (getD (earliest .loop .ends) (earlier .before .wide2 .result) 0 + earlier .wide3 .result)) (earliest .loop .passed .used) (Done (c .before .walked2 .given .0 .0) (c .before .walked2 .given .0 .1 .0)) = rw (c .before .walked2 .given .1) at w in
     omega (arith, bounds .2)
 
 walk-operands-add-o : (t : ℕ) → walk-operands-lts.Need-add-o (walk-operands-claims t) (walk-operands-at t) walk-operands.Post walk-operands-Inv-loop walk-operands-μ-loop
 walk-operands-add-o t c = search needs
 
-walk-operands-mul-ends : (t : ℕ) → walk-operands-lts.Need-mul-ends (walk-operands-claims t) (walk-operands-at t) walk-operands.Post walk-operands-Inv-loop walk-operands-μ-loop
-walk-operands-mul-ends t c = search needs
+walk-operands-cast-ends : (t : ℕ) → walk-operands-lts.Need-cast-ends (walk-operands-claims t) (walk-operands-at t) walk-operands.Post walk-operands-Inv-loop walk-operands-μ-loop
+walk-operands-cast-ends t c =
+    let earlier = c .before .before .before .before .before .before in
+    let earliest = earlier .before .before .before .before in
+    let w = within _ _ _ _ _ _ _ _ (c .before .before .before .before .walk-operand .ensures) in
+    let bounds : Within (earliest .before .before .before .before .before .args .at + (getD (earliest .loop .ends) (earlier .before .wide2 .result) 0 + earlier .wide3 .result)) (earliest .loop .passed .used) (Done (c .before .walked2 .given .0 .0) (c .before .walked2 .given .0 .1 .0)) = rw (c .before .walked2 .given .1) at w in
+    omega (arith, bounds .2)
 
 walk-operands-array-write-ends : (t : ℕ) → walk-operands-lts.Need-array-write-ends (walk-operands-claims t) (walk-operands-at t) walk-operands.Post walk-operands-Inv-loop walk-operands-μ-loop
 walk-operands-array-write-ends t c = search needs
@@ -304,9 +328,11 @@ walk-operands-loop-less t c = search needs
 
 walk-operands-loop-again : (t : ℕ) → walk-operands-lts.Need-loop-again (walk-operands-claims t) (walk-operands-at t) walk-operands.Post walk-operands-Inv-loop walk-operands-μ-loop
 walk-operands-loop-again t c =
+    let earlier = c .before .before .before .before .before in
+    let earliest = earlier .before .before .before .before in
     rw (c .larger .ensures)
-    (next-turn _ _ _ _ _ _ _ _ _ _ _ _ _ (c .before .before .before .before .before .before .before .before .before .before .before .loop .inv) _ _ _ (c .before .before .before .before .before .before .before .before .before .before .loop-test .taken) (c .before .before .before .before .before .before .before .before .before .operand .ensures) (starts-at t (c .before .before .before .before .before .before .before))
-    (c .before .before .before .before .before .walk-operand .ensures) _ _ (c .before .before .walked2 .given .1) (c .before .before .before .before .before .walk-operand .kept .1 .1 .1 .1 .1 .1 .0))
+    (next-turn _ _ _ _ _ _ _ _ _ _ _ _ _ (earliest .before .before .loop .inv) _ _ _ (earliest .before .loop-test .taken) (earliest .operand .ensures) (starts-at t (earlier .before .before))
+    (earlier .walk-operand .ensures) _ _ (c .before .before .walked2 .given .1) (earlier .walk-operand .kept .1 .1 .1 .1 .1 .1 .0))
 
 walk-operands-same-length-2 : (t : ℕ) → walk-operands-lts.Need-same-length-2 (walk-operands-claims t) (walk-operands-at t) walk-operands.Post walk-operands-Inv-loop walk-operands-μ-loop
 walk-operands-same-length-2 t c = c .before .loop .inv .kept
@@ -321,7 +347,9 @@ walk-table-returns-2 : (t : ℕ) → walk-table-lts.Need-returns-2 (walk-table-c
 walk-table-returns-2 t c = table-far _ _ _ _ _ _ _ (c .before .if1 .left) (c .if2 .taken)
 
 walk-table-choose-at-requires : (t : ℕ) → walk-table-lts.Need-choose-at-requires (walk-table-claims t) (walk-table-at t) walk-table.Post
-walk-table-choose-at-requires t c κs = (c .before .before .before .before .before .pre .1 .fixed, c .before .before .before .before .before .pre .1 .own)
+walk-table-choose-at-requires t c κs =
+    let earlier = c .before .before .before .before .before in
+    (earlier .pre .1 .fixed, earlier .pre .1 .own)
 
 walk-table-enum-told : (t : ℕ) → walk-table-lts.Need-enum-told (walk-table-claims t) (walk-table-at t) walk-table.Post
 walk-table-enum-told t c = search needs
@@ -334,11 +362,13 @@ walk-table-enum-known-choice t c = search needs
 
 walk-table-walk-constructor-requires : (t : ℕ) → walk-table-lts.Need-walk-constructor-requires (walk-table-claims t) (walk-table-at t) walk-table.Post
 walk-table-walk-constructor-requires t c κs =
-    let ready = c .before .before .before .before .before .before .before .before .before .before .pre .1 in
-    let e = sym (c .before .before .before .before .choose-at .ensures) ∙ c .before .before .choice .given .1 in (
-      omega (arith, c .before .before .before .before .before .before .before .before .before .before .pre .0, c .before .before .before .before .before .before .if1 .left),
+    let earlier = c .before .before .before .before in
+    let earliest = earlier .before .before in
+    let ready = earliest .before .before .before .before .pre .1 in
+    let e = sym (earlier .choose-at .ensures) ∙ c .before .before .choice .given .1 in (
+      omega (arith, earliest .before .before .before .before .pre .0, earliest .if1 .left),
       stayed _ _ _ _ _ ready _ (ready .few)
-          (record { within = takes _ _ _ _ (obeyed-in _ _ (ready .fixed)) _ e .within; near = c .before .before .before .before .before .if2 .left; room = c .before .before .before .before .before .before .if1 .left }),
+          (record { within = takes _ _ _ _ (obeyed-in _ _ (ready .fixed)) _ e .within; near = earlier .before .if2 .left; room = earliest .if1 .left }),
     )
 
 walk-table-enum-told-3 : (t : ℕ) → walk-table-lts.Need-enum-told-3 (walk-table-claims t) (walk-table-at t) walk-table.Post
@@ -346,23 +376,28 @@ walk-table-enum-told-3 t c = search needs
 
 walk-table-returns-3 : (t : ℕ) → walk-table-lts.Need-returns-3 (walk-table-claims t) (walk-table-at t) walk-table.Post
 walk-table-returns-3 t c =
-    table-refused _ _ _ _ _ _ _ (c .before .before .before .before .if1 .left) (c .before .before .before .if2 .left) _ _ (sym (c .enum-told .given .1) ∙ c .before .before .choose-at .ensures) (λ w. refl)
+    let earlier = c .before .before in
+    table-refused _ _ _ _ _ _ _ (earlier .before .before .if1 .left) (earlier .before .if2 .left) _ _ (sym (c .enum-told .given .1) ∙ earlier .choose-at .ensures) (λ w. refl)
 
 walk-table-returns-4 : (t : ℕ) → walk-table-lts.Need-returns-4 (walk-table-claims t) (walk-table-at t) walk-table.Post
 walk-table-returns-4 t c =
-    table-refused _ _ _ _ _ _ _ (c .before .before .before .before .if1 .left) (c .before .before .before .if2 .left) _ _ (sym (c .enum-told2 .given .1) ∙ c .before .before .choose-at .ensures) (λ w. refl)
+    let earlier = c .before .before in
+    table-refused _ _ _ _ _ _ _ (earlier .before .before .if1 .left) (earlier .before .if2 .left) _ _ (sym (c .enum-told2 .given .1) ∙ earlier .choose-at .ensures) (λ w. refl)
 
 walk-table-same-length : (t : ℕ) → walk-table-lts.Need-same-length (walk-table-claims t) (walk-table-at t) walk-table.Post
 walk-table-same-length t c = search needs
 
 walk-table-returns-5 : (t : ℕ) → walk-table-lts.Need-returns-5 (walk-table-claims t) (walk-table-at t) walk-table.Post
 walk-table-returns-5 t c =
-    table-taken _ _ _ _ _ _ _ (c .before .before .before .before .before .before .before .before .if1 .left) (c .before .before .before .before .before .before .before .if2 .left) _ _ (sym (c .before .before .before .before .choice .given .1) ∙ c .before .before .before .before .before .before .choose-at .ensures)
+    let earlier = c .before .before .before .before in
+    let earliest = earlier .before .before in
+    table-taken _ _ _ _ _ _ _ (earliest .before .before .if1 .left) (earliest .before .if2 .left) _ _ (sym (earlier .choice .given .1) ∙ earliest .choose-at .ensures)
     (c .before .walk-constructor .ensures)
 
 walk-table-returns-6 : (t : ℕ) → walk-table-lts.Need-returns-6 (walk-table-claims t) (walk-table-at t) walk-table.Post
 walk-table-returns-6 t c =
-    table-refused _ _ _ _ _ _ _ (c .before .before .before .before .if1 .left) (c .before .before .before .if2 .left) _ _ (sym (c .enum-told3 .given .1) ∙ c .before .before .choose-at .ensures) (λ w. refl)
+    let earlier = c .before .before in
+    table-refused _ _ _ _ _ _ _ (earlier .before .before .if1 .left) (earlier .before .if2 .left) _ _ (sym (c .enum-told3 .given .1) ∙ earlier .choose-at .ensures) (λ w. refl)
 
 pub +walk-constructor+walk-operand+walk-operands+walk-table-spec : {M : Type 1} → statement M
 +walk-constructor+walk-operand+walk-operands+walk-table-spec =
@@ -433,8 +468,8 @@ pub +walk-constructor+walk-operand+walk-operands+walk-table-spec : {M : Type 1} 
     (walk-operands-add-operand t)
     (walk-operands-operand-requires t)
     (walk-operands-wide-requires-2 t)
-    (walk-operands-mul-start t)
     (walk-operands-array-read-start t)
+    (walk-operands-cast-start t)
     (walk-operands-wide-requires-3 t)
     (walk-operands-add-start t)
     (walk-operands-walk-operand-requires t)
@@ -444,7 +479,7 @@ pub +walk-constructor+walk-operand+walk-operands+walk-table-spec : {M : Type 1} 
     (walk-operands-enum-known-walked-2 t)
     (walk-operands-add-end t)
     (walk-operands-add-o t)
-    (walk-operands-mul-ends t)
+    (walk-operands-cast-ends t)
     (walk-operands-array-write-ends t)
     (walk-operands-larger-requires t)
     (walk-operands-loop-less t)

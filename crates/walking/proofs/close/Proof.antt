@@ -38,7 +38,9 @@ element-copy-out-if2 : tie.Need-element-copy-out-if2
 element-copy-out-if2 c = search needs
 
 returns-2 : tie.Need-returns-2
-returns-2 c = closes-short _ _ _ _ _ _ _ _ _ _ _ (c .before .before .before .before .before .walked2 .given .1) (c .before .before .before .larger .ensures) (c .before .before .if1 .left) (c .if2 .taken)
+returns-2 c =
+    let earlier = c .before .before in
+    closes-short _ _ _ _ _ _ _ _ _ _ _ (earlier .before .before .before .walked2 .given .1) (earlier .before .larger .ensures) (earlier .if1 .left) (c .if2 .taken)
 
 cast-last : tie.Need-cast-last
 cast-last c = search needs
@@ -48,8 +50,9 @@ sub-size c = let w = came (c .before .before .before .before .before .before) in
 
 put-row-requires : tie.Need-put-row-requires
 put-row-requires c κs =
-    let w = came (c .before .before .before .before .before .before .before) in
-    let start = c .before .before .before .before .before .before .before .before .before in
+    let earlier = c .before .before .before .before .before .before .before in
+    let w = came earlier in
+    let start = earlier .before .before in
     (start .pre .0 .3, start .pre .0 .0, start .pre .0 .2, omega arith)
 
 returns-3 : tie.Need-returns-3
@@ -60,9 +63,10 @@ same-length c = search needs
 
 returns-4 : tie.Need-returns-4
 returns-4 c =
-    let w = came (c .before .before .before .before .before .before .before .before .before) in
-    closes-done _ _ _ _ _ _ _ _ _ _ _ (c .before .before .before .before .before .before .before .before .before .walked2 .given .1) (c .before .before .before .before .before .before .before .larger .ensures) (c .before .before .before .before .before .before .if1 .left) (c .before .before .before .before .if2 .left)
-    (rw (toZ-pos w64 {n = c .before .before .before .before .before .before .before .larger .result} (omega arith)) at (c .before .put-row .ensures))
+    let earlier = c .before .before .before .before .before .before in
+    let w = came (earlier .before .before .before) in
+    closes-done _ _ _ _ _ _ _ _ _ _ _ (earlier .before .before .before .walked2 .given .1) (earlier .before .larger .ensures) (earlier .if1 .left) (c .before .before .before .before .if2 .left)
+    (rw (toZ-pos w64 {n = earlier .before .larger .result} (omega arith)) at (c .before .put-row .ensures))
 
 pub close-spec : {M : Type 1} → statement M
 close-spec =

@@ -28,7 +28,9 @@ slice-aggregate-walk-root : tie.Need-slice-aggregate-walk-root
 slice-aggregate-walk-root c = search needs
 
 walk-root-requires : tie.Need-walk-root-requires
-walk-root-requires c κs = root-ready _ (c .before .before .before .before .before .args .fixed .now) (c .before .before .before .before .before .args .code .now) (c .before .before .before .before .before .args .at) 0 (omega (arith, c .before .before .before .before .before .pre .0 .long)) (c .before .before .before .before .before .pre .0)
+walk-root-requires c κs =
+    let earlier = c .before .before .before .before .before in
+    root-ready _ (earlier .args .fixed .now) (earlier .args .code .now) (earlier .args .at) 0 (omega (arith, earlier .pre .0 .long)) (earlier .pre .0)
 
 enum-known-walked : tie.Need-enum-known-walked
 enum-known-walked c = search needs
@@ -37,10 +39,14 @@ enum-known-walked-2 : tie.Need-enum-known-walked-2
 enum-known-walked-2 c = search needs
 
 returns : tie.Need-returns
-returns c = (decode-refused _ (c .before .before .before .before .before .before .before .before .before .before .args .fixed .now) (c .before .before .before .before .before .before .before .before .before .before .args .code .now) (c .before .before .before .before .before .before .before .before .before .before .args .at) _ (omega (arith, c .before .before .before .before .before .before .before .before .before .before .pre .0 .long)) _ _ _ (c .before .before .before .before .walk-root .ensures) _ (c .before .walked .given .1), refl)
+returns c =
+    let earlier = c .before .before .before .before .before .before .before .before .before .before in
+    (decode-refused _ (earlier .args .fixed .now) (earlier .args .code .now) (earlier .args .at) _ (omega (arith, earlier .pre .0 .long)) _ _ _ (c .before .before .before .before .walk-root .ensures) _ (c .before .walked .given .1), refl)
 
 returns-2 : tie.Need-returns-2
-returns-2 c = (decode-done _ (c .before .before .before .before .before .before .before .before .before .before .args .fixed .now) (c .before .before .before .before .before .before .before .before .before .before .args .code .now) (c .before .before .before .before .before .before .before .before .before .before .args .at) _ (omega (arith, c .before .before .before .before .before .before .before .before .before .before .pre .0 .long)) _ _ _ (c .before .before .before .before .walk-root .ensures) _ _ (c .before .walked2 .given .1) refl, refl)
+returns-2 c =
+    let earlier = c .before .before .before .before .before .before .before .before .before .before in
+    (decode-done _ (earlier .args .fixed .now) (earlier .args .code .now) (earlier .args .at) _ (omega (arith, earlier .pre .0 .long)) _ _ _ (c .before .before .before .before .walk-root .ensures) _ _ (c .before .walked2 .given .1) refl, refl)
 
 pub decode-at-spec : {M : Type 1} → statement M
 decode-at-spec =

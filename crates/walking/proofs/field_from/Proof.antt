@@ -34,7 +34,9 @@ end-is c = ap (λ (w : ℕ). c .before .before .before .before .before .before .
 
 good : (c : tie.After-field)
     → fieldOk (length (settingIn (c .before .before .before .before .before .before .args .desc .now) (c .before .before .before .before .before .before .args .fixed .now) .description .names)) (c .field .result) ≡ true
-good c = rw (found c) (field-ok _ (obeyed-in _ _ (c .before .before .before .before .before .before .pre .fixed)) (c .before .before .before .before .before .before .args .index) (c .before .before .before .before .before .before .pre .own))
+good c =
+    let earlier = c .before .before .before .before .before .before in
+    rw (found c) (field-ok _ (obeyed-in _ _ (earlier .pre .fixed)) (earlier .args .index) (earlier .pre .own))
 
 returns : tie.Need-returns
 returns c = field-full _ _ _ _ _ _ _ _ (c .if1 .taken)
@@ -58,20 +60,23 @@ element-copy-out-if3 : tie.Need-element-copy-out-if3
 element-copy-out-if3 c = search needs
 
 returns-3 : tie.Need-returns-3
-returns-3 c = field-short _ _ _ _ _ _ (c .before .before .before .before .before .before .if1 .left) _ (end-is (c .before .before .before)) (c .before .before .if2 .left) _ _ (rw total-in (c .if3 .taken))
+returns-3 c =
+    let earlier = c .before .before in
+    field-short _ _ _ _ _ _ (earlier .before .before .before .before .if1 .left) _ (end-is (earlier .before)) (earlier .if2 .left) _ _ (rw total-in (c .if3 .taken))
 
 show-requires : tie.Need-show-requires
 show-requires c κs =
-    let start = c .before .before .before .before .before .before .before .before .before .before .before in
-    let f = c .before .before .before .before .before .field .result in
-    let end = start .args .place + c .before .before .before .before .width-of .result in (
+    let earlier = c .before .before .before .before in
+    let start = earlier .before .before .before .before .before .before .before in
+    let f = earlier .before .field .result in
+    let end = start .args .place + earlier .width-of .result in (
       start .pre .fixed,
       record {
-        readable = readable _ _ (good (c .before .before .before .before .before));
-        here = λ e. let w : c .before .before .before .before .width-of .result ≡ f .width = c .before .before .before .before .width-of .ensures .0 ∙ simp e in omega (arith, start .pre .code, total-in (start .args .desc .now) (start .args .fixed .now), c .before .if3 .left);
-        name = λ e. named-within _ f _ _ (good (c .before .before .before .before .before)) e;
-        room = c .before .before .before .before .before .before .before .if1 .left;
-        near = rw (← c .before .before .before .before .width-of .ensures .0) (near-end (start .args .place) end (c .before .before .before .if2 .left));
+        readable = readable _ _ (good (earlier .before));
+        here = λ e. let w : earlier .width-of .result ≡ f .width = earlier .width-of .ensures .0 ∙ simp e in omega (arith, start .pre .code, total-in (start .args .desc .now) (start .args .fixed .now), c .before .if3 .left);
+        name = λ e. named-within _ f _ _ (good (earlier .before)) e;
+        room = earlier .before .before .before .if1 .left;
+        near = rw (← earlier .width-of .ensures .0) (near-end (start .args .place) end (c .before .before .before .if2 .left));
       },
     )
 
@@ -80,10 +85,12 @@ same-length c = search needs
 
 returns-4 : tie.Need-returns-4
 returns-4 c =
-    let start = c .before .before .before .before .before .before .before .before .before .before .before .before .before in
+    let earlier = c .before .before .before .before .before in
+    let earliest = earlier .before .before .before .before .before .before .before .before in
+    let start = earliest in
     let h = c .before .show .ensures in
-    rw (field-shown (settingIn (start .args .desc .now) (start .args .fixed .now)) _ _ (start .args .code .now) (start .args .place) (start .args .state) (c .before .before .before .before .before .before .before .before .before .if1 .left) _ (end-is (c .before .before .before .before .before .before)) (c .before .before .before .before .before .if2 .left) (omega (arith, total-in (c .before .before .before .before .before .before .before .before .before .before .before .before .before .args .desc .now) (c .before .before .before .before .before .before .before .before .before .before .before .before .before .args .fixed .now), c .before .before .before .if3 .left)))
-    (rw (found (c .before .before .before .before .before .before .before)) at h)
+    rw (field-shown (settingIn (start .args .desc .now) (start .args .fixed .now)) _ _ (start .args .code .now) (start .args .place) (start .args .state) (earlier .before .before .before .before .if1 .left) _ (end-is (earlier .before)) (earlier .if2 .left) (omega (arith, total-in (earliest .args .desc .now) (earliest .args .fixed .now), c .before .before .before .if3 .left)))
+    (rw (found (earlier .before .before)) at h)
 
 pub field-from-spec : {M : Type 1} → statement M
 field-from-spec =

@@ -39,7 +39,8 @@ same-length c = search needs
 
 returns : tie.Need-returns
 returns c =
-    rw (toZ-ofZ (record { sfits = c .before .before .before .before .number .ok }), c .before .before .before .before .number .ensures, c .before .before .before .before .before .before .before .value .ensures, c .before .before .wide .ensures .0) at (c .before .put-row .ensures)
+    let earlier = c .before .before .before .before in
+    rw (toZ-ofZ (record { sfits = earlier .number .ok }), earlier .number .ensures, earlier .before .before .before .value .ensures, c .before .before .wide .ensures .0) at (c .before .put-row .ensures)
 
 returns-2 : tie.Need-returns-2
 returns-2 c = unwritten _ _ _ (c .if1 .left)

@@ -52,22 +52,25 @@ add-name c =
 
 name-requires : tie.Need-name-requires
 name-requires c κs =
-    let start = c .before .before .before .before .before .before .before .before in
-    (start .pre .0, rw (c .before .value .ensures) (start .pre .1 .name (sym (c .before .before .before .before .look-of .ensures) ∙ c .before .before .enum-told .given .1)))
+    let earlier = c .before .before in
+    let start = earlier .before .before .before .before .before .before in
+    (start .pre .0, rw (c .before .value .ensures) (start .pre .1 .name (sym (earlier .before .before .look-of .ensures) ∙ earlier .enum-told .given .1)))
 
 returns : tie.Need-returns
 returns c =
-    let start = c .before .before .before .before .before .before .before .before .before .before .before in
-    shows-hole _ _ _ _ _ _ _ _ _ (sym (c .before .before .before .before .before .before .before .look-of .ensures) ∙ c .before .before .before .before .before .enum-told .given .1)
-    (rw (c .before .before .before .before .value .ensures) at (rw (c .before .before .name .ensures) at (c .if1 .taken)))
+    let earlier = c .before .before .before .before in
+    let start = earlier .before .before .before .before .before .before .before in
+    shows-hole _ _ _ _ _ _ _ _ _ (sym (earlier .before .before .before .look-of .ensures) ∙ earlier .before .enum-told .given .1)
+    (rw (earlier .value .ensures) at (rw (c .before .before .name .ensures) at (c .if1 .taken)))
 
 wide-requires : tie.Need-wide-requires
 wide-requires c κs = search needs
 
 cast-put-row : tie.Need-cast-put-row
 cast-put-row c =
-    let start = c .before .before .before .before .before .before .before .before .before .before .before .before .before in
-    record { sfits = omega (arith, c .before .before .before .before .before .struct-known .given .1 .1 .1 .1 .1 .1 .0, c .before .before .before .before .before .before .value .ensures, narrow _ _ (start .pre .1 .readable) (value-small (start .args .field) (start .args .code .now) (start .args .state .context))) }
+    let earlier = c .before .before .before .before .before in
+    let start = earlier .before .before .before .before .before .before .before .before in
+    record { sfits = omega (arith, earlier .struct-known .given .1 .1 .1 .1 .1 .1 .0, earlier .before .value .ensures, narrow _ _ (start .pre .1 .readable) (value-small (start .args .field) (start .args .code .now) (start .args .state .context))) }
 
 put-row-requires : tie.Need-put-row-requires
 put-row-requires c κs = search needs
@@ -80,24 +83,28 @@ same-length c = search needs
 
 returns-2 : tie.Need-returns-2
 returns-2 c =
-    let start = c .before .before .before .before .before .before .before .before .before .before .before in
+    let earlier = c .before .before .before .before .before in
+    let earliest = earlier .before .before in
+    let start = earliest .before .before .before .before in
     rw (c .one-more .ensures)
-    (shows-number _ _ _ _ _ _ _ _ _ (c .before .before .before .before .before .before .before .before .width-of .ensures .0) (start .pre .1 .room) (start .pre .1 .near) _ _ _
-    (sym (c .before .before .before .before .before .before .before .look-of .ensures) ∙ c .before .before .before .before .before .look .given .1) (c .before .before .put-number .ensures))
+    (shows-number _ _ _ _ _ _ _ _ _ (earliest .before .width-of .ensures .0) (start .pre .1 .room) (start .pre .1 .near) _ _ _
+    (sym (earliest .look-of .ensures) ∙ earlier .look .given .1) (c .before .before .put-number .ensures))
 
 same-length-2 : tie.Need-same-length-2
 same-length-2 c = search needs
 
 returns-3 : tie.Need-returns-3
 returns-3 c =
-    let start = c .before .before .before .before .before .before .before .before .before .before .before .before .before .before .before .before in
-    let name = start .args .field .first + c .before .before .before .before .before .before .before .before .before .value .result in
+    let earlier = c .before .before .before .before .before .before .before .before in
+    let earliest = earlier .before .before .before .before in
+    let start = earliest .before .before .before .before in
+    let name = start .args .field .first + earlier .before .value .result in
     let small = narrow _ _ (start .pre .1 .readable) (value-small (start .args .field) (start .args .code .now) (start .args .state .context)) in
     rw (c .one-more2 .ensures)
-    (shows-name _ _ _ _ _ _ _ _ _ (c .before .before .before .before .before .before .before .before .before .before .before .before .before .width-of .ensures .0) (start .pre .1 .room) (start .pre .1 .near) _
-    (sym (c .before .before .before .before .before .before .before .before .before .before .before .before .look-of .ensures) ∙ c .before .before .before .before .before .before .before .before .before .before .enum-told .given .1)
-    (rw (c .before .before .before .before .before .before .before .before .before .value .ensures) at (rw (c .before .before .before .before .before .before .before .name .ensures) at (c .before .before .before .before .before .if1 .left)))
-    (rw (c .before .before .before .before .before .before .before .before .before .value .ensures) at (rw (toZ-pos w64 {n = name} (omega (arith, c .before .before .before .before .before .before .before .before .struct-known .given .1 .1 .1 .1 .1 .1 .0, c .before .before .before .before .before .before .before .before .before .value .ensures, small)), c .before .before .before .wide .ensures .0) at (c .before .before .put-row .ensures))))
+    (shows-name _ _ _ _ _ _ _ _ _ (earliest .before .width-of .ensures .0) (start .pre .1 .room) (start .pre .1 .near) _
+    (sym (earliest .look-of .ensures) ∙ earlier .before .before .enum-told .given .1)
+    (rw (earlier .before .value .ensures) at (rw (c .before .before .before .before .before .before .before .name .ensures) at (c .before .before .before .before .before .if1 .left)))
+    (rw (earlier .before .value .ensures) at (rw (toZ-pos w64 {n = name} (omega (arith, earlier .struct-known .given .1 .1 .1 .1 .1 .1 .0, earlier .before .value .ensures, small)), c .before .before .before .wide .ensures .0) at (c .before .before .put-row .ensures))))
 
 pub show-spec : {M : Type 1} → statement M
 show-spec =

@@ -28,10 +28,14 @@ slice-aggregate-walk-root : tie.Need-slice-aggregate-walk-root
 slice-aggregate-walk-root c = search needs
 
 walk-root-requires : tie.Need-walk-root-requires
-walk-root-requires c κs = root-ready _ (c .before .before .before .before .before .args .fixed .now) (c .before .before .before .before .before .args .code .now) (c .before .before .before .before .before .args .at) 0 (omega (arith, c .before .before .before .before .before .pre .0 .long)) (c .before .before .before .before .before .pre .0)
+walk-root-requires c κs =
+    let earlier = c .before .before .before .before .before in
+    root-ready _ (earlier .args .fixed .now) (earlier .args .code .now) (earlier .args .at) 0 (omega (arith, earlier .pre .0 .long)) (earlier .pre .0)
 
 returns : tie.Need-returns
-returns c = (step-here _ (c .before .before .before .before .before .before .before .args .fixed .now) (c .before .before .before .before .before .before .before .args .code .now) (c .before .before .before .before .before .before .before .args .at) _ (omega (arith, c .before .before .before .before .before .before .before .pre .0 .long)) _ _ _ (c .before .walk-root .ensures), refl)
+returns c =
+    let earlier = c .before .before .before .before .before .before .before in
+    (step-here _ (earlier .args .fixed .now) (earlier .args .code .now) (earlier .args .at) _ (omega (arith, earlier .pre .0 .long)) _ _ _ (c .before .walk-root .ensures), refl)
 
 pub step-at-spec : {M : Type 1} → statement M
 step-at-spec =

@@ -37,19 +37,25 @@ same-length : tie.Need-same-length
 same-length c = search needs
 
 returns : tie.Need-returns
-returns c = root-empty _ _ _ _ (c .before .before .before .before .before .before .before .root .ensures) _ _ _ (c .before .before .before .before .before .walk-table .ensures) _ _ (c .before .before .walked2 .given .1) (c .if1 .taken)
+returns c =
+    let earlier = c .before .before .before .before .before in
+    root-empty _ _ _ _ (earlier .before .before .root .ensures) _ _ _ (earlier .walk-table .ensures) _ _ (c .before .before .walked2 .given .1) (c .if1 .taken)
 
 same-length-2 : tie.Need-same-length-2
 same-length-2 c = search needs
 
 returns-2 : tie.Need-returns-2
-returns-2 c = root-refused _ _ _ _ (c .before .before .before .before .before .before .root .ensures) _ _ _ (c .before .before .before .before .walk-table .ensures) _ (c .before .walked .given .1)
+returns-2 c =
+    let earlier = c .before .before .before .before in
+    root-refused _ _ _ _ (earlier .before .before .root .ensures) _ _ _ (earlier .walk-table .ensures) _ (c .before .walked .given .1)
 
 same-length-3 : tie.Need-same-length-3
 same-length-3 c = search needs
 
 returns-3 : tie.Need-returns-3
-returns-3 c = root-done _ _ _ _ (c .before .before .before .before .before .before .before .root .ensures) _ _ _ (c .before .before .before .before .before .walk-table .ensures) _ _ (c .before .before .walked2 .given .1) (c .if1 .left)
+returns-3 c =
+    let earlier = c .before .before .before .before .before in
+    root-done _ _ _ _ (earlier .before .before .root .ensures) _ _ _ (earlier .walk-table .ensures) _ _ (c .before .before .walked2 .given .1) (c .if1 .left)
 
 pub walk-root-spec : {M : Type 1} → statement M
 walk-root-spec =

@@ -3,7 +3,9 @@ use Rattle.format.proofs.Cursor.constructor.Statement.{statement}
 use Rattle.format.proofs.Cursor.constructor.Tie as tie
 
 returns : tie.Need-returns
-returns c = rw (c .before .before .before .before .before .before .pattern-at .ensures, c .before .before .before .before .word .ensures, c .before .before .word2 .ensures)
+returns c =
+    let earlier = c .before .before in
+    rw (earlier .before .before .before .before .pattern-at .ensures, earlier .before .before .word .ensures, earlier .word2 .ensures)
 
 pub constructor-spec : {M : Type 1} → statement M
 constructor-spec =

@@ -25,11 +25,15 @@ add-end c = omega (arith, small (c .word .result) (c .before .before .before .be
 
 returns-3 : tie.Need-returns-3
 unfolding sectionAt
-returns-3 c = rw (← c .before .word .ensures, le-leb (c .before .before .before .before .before .args .self .at + countBytes) (length (c .before .before .before .before .before .args .s .now)) (omega arith), c .if3 .taken)
+returns-3 c =
+    let earlier = c .before .before .before .before .before in
+    rw (← c .before .word .ensures, le-leb (earlier .args .self .at + countBytes) (length (earlier .args .s .now)) (omega arith), c .if3 .taken)
 
 returns-4 : tie.Need-returns-4
 unfolding sectionAt
-returns-4 c = rw (← c .before .word .ensures, le-leb (c .before .before .before .before .before .args .self .at + countBytes) (length (c .before .before .before .before .before .args .s .now)) (omega arith), c .if3 .left)
+returns-4 c =
+    let earlier = c .before .before .before .before .before in
+    rw (← c .before .word .ensures, le-leb (earlier .args .self .at + countBytes) (length (earlier .args .s .now)) (omega arith), c .if3 .left)
 
 pub count-spec : {M : Type 1} → statement M
 count-spec =
