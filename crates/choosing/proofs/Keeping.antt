@@ -4,9 +4,9 @@ use mathlib.Core.Bool.{Bool, true, false, cond, not, _&&_, _||_, false≢true}
 use mathlib.Core.Path.{_≡_, refl, sym, ap, _∙_}
 use native.Mathlib.Decide.{ℕ-discrete}
 use native.Mathlib.Omega.{arith}
-use borrow.Author.Tests.{eq-eqb, ne-eqb, not-false, ltb-true, ltb-false}
+use borrow.Author.Tests.{eq-eqb, ne-eqb, not-false}
 use lib.Bits.{bitAnd, bitXor}
-use lib.Dec.{eqb, ltb}
+use lib.Dec.{eqb}
 use Rattle.lists.specs.Below.{allBelow, anyBelow}
 use Rattle.lists.proofs.Below.{any-none, any-more, any-at, all-at, all-of}
 use Rattle.lists.proofs.Bools.{or-no, or-yes}
@@ -215,21 +215,16 @@ module _ (at : ℕ → Pattern) (hit : ℕ → Bool) (n t : ℕ) where
       go j l (no q) false e = rw (ne-eqb j t q, e)
 
 -- a record whose bytes differ does not agree
-pub apart-none : (p : Pattern) (i : Input) → not (eqb (bitAnd (bitXor (i .word) (p .value)) (bitAnd (p .mask) (i .here))) 0) ≡ true
-    → wordsAgree p i ≡ false
-apart-none p i h = go (eqb (bitAnd (bitXor (i .word) (p .value)) (bitAnd (p .mask) (i .here))) 0) _ h
-  where
-    go : (a b : Bool) → not a ≡ true → (a && b) ≡ false
-    go true b e = absurd (false≢true e)
-    go false b e = refl
+pub differing : (p : Pattern) (i : Input) → eqb (bitAnd (bitXor (i .word) (p .value)) (bitAnd (p .mask) (i .here))) 0 ≡ false → wordsAgree p i ≡ false
+differing p i h = rw h
 
 -- records that are passed over
 module _ (at : ℕ → Pattern) (i : Input) (n from : ℕ) where
   pub skip-none : from ≤ n → Skips at i n from from
   skip-none h = record { since = omega arith; within = h; none = λ j l h. absurd (omega arith) }
 
-  pub skip-more : (j : ℕ) → j < n → (p : Pattern) → p ≡ at j → wordsAgree p i ≡ false → Skips at i n from j → Skips at i n from (j + 1)
-  skip-more j h p e a k =
+  pub skip-more : (j : ℕ) → j < n → wordsAgree (at j) i ≡ false → Skips at i n from j → Skips at i n from (j + 1)
+  skip-more j h a k =
       record {
         since = omega (arith, k .since);
         within = omega arith;
@@ -237,20 +232,8 @@ module _ (at : ℕ → Pattern) (i : Input) (n from : ℕ) where
       }
     where
       go : (x : ℕ) → from ≤ x → x < j + 1 → Dec (x ≡ j) → wordsAgree (at x) i ≡ false
-      go x l h (yes q) = rw (q, ← e) a
+      go x l h (yes q) = rw q a
       go x l h (no q) = k .none x l (omega (arith, q))
-
-  pub skip-join : (j r : ℕ) → Skips at i n from j → Skips at i n j r → Skips at i n from r
-  skip-join j r k m =
-      record {
-        since = omega (arith, k .since, m .since);
-        within = m .within;
-        none = λ x l h. go x l h (ltb x j) refl;
-      }
-    where
-      go : (x : ℕ) → from ≤ x → x < r → (t : Bool) → ltb x j ≡ t → wordsAgree (at x) i ≡ false
-      go x l h true q = k .none x l (ltb-true x j q)
-      go x l h false q = m .none x (ltb-false x j q) h
 
   -- change nothing
   module _ (r : ℕ) (b : Best) (k : Skips at i n from r) where
@@ -270,27 +253,3 @@ module _ (at : ℕ → Pattern) (i : Input) (n from : ℕ) where
     skipped f s =
         let e : from + (r - from) ≡ r = omega (arith, k .since) in
         rw e at (skipped-by (r - from) (omega (arith, k .since)) f s)
-
--- four records, by the patterns that were read
-module _ (at : ℕ → Pattern) (i : Input) (n j : ℕ) (h : j + 4 ≤ n) (p q r s : Pattern) (ep : p ≡ at j) (eq : q ≡ at (j + 1)) (er : r ≡ at (j + 2))
-    (es : s ≡ at (j + 3)) (a b c d : Bool) (fa : a ≡ true → wordsAgree p i ≡ false) (fb : b ≡ true → wordsAgree q i ≡ false)
-    (fc : c ≡ true → wordsAgree r i ≡ false) (fd : d ≡ true → wordsAgree s i ≡ false) where
-  pub four-skips : (((a && b) && c) && d) ≡ true → Skips at i n j (j + 4)
-  four-skips e = go a refl b refl c refl d refl e
-    where
-      all : a ≡ true → b ≡ true → c ≡ true → d ≡ true → Skips at i n j (j + 4)
-      all ta tb tc td =
-          let two : j + 1 + 1 ≡ j + 2 = omega arith in
-          let three : j + 2 + 1 ≡ j + 3 = omega arith in
-          let four : j + 3 + 1 ≡ j + 4 = omega arith in
-          let past : Skips at i n j (j + 1) = skip-more at i n j j (omega arith) p ep (fa ta) (skip-none at i n j (omega arith)) in
-          let past : Skips at i n j (j + 2) = rw two at (skip-more at i n j (j + 1) (omega arith) q eq (fb tb) past) in
-          let past : Skips at i n j (j + 3) = rw three at (skip-more at i n j (j + 2) (omega arith) r er (fc tc) past) in
-          rw four at (skip-more at i n j (j + 3) (omega arith) s es (fd td) past)
-
-      go : (x : Bool) → a ≡ x → (y : Bool) → b ≡ y → (z : Bool) → c ≡ z → (w : Bool) → d ≡ w → (((x && y) && z) && w) ≡ true → Skips at i n j (j + 4)
-      go true ta true tb true tc true td e = all ta tb tc td
-      go true ta true tb true tc false td e = absurd (false≢true e)
-      go true ta true tb false tc w td e = absurd (false≢true e)
-      go true ta false tb z tc w td e = absurd (false≢true e)
-      go false ta y tb z tc w td e = absurd (false≢true e)

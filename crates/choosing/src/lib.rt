@@ -65,28 +65,19 @@ fn with_match(desc: &[u8], layout: Layout, first: usize, best: Best, j: usize, p
     }
 }
 
-// Whether a masked bit of a byte that is here differs.
-fn apart(p: Pattern, i: Input) -> bool
-    ensures { λ r. ⌜ (r ≡ true → wordsAgree p i ≡ false) ⌝ }
-{
-    (i.word ^ p.value) & (p.mask & i.here) != 0
-}
-
-// Most records are apart from the input, so they are passed over by fours, in a loop of their own.
-fn four_apart(desc: &[u8], layout: Layout, table: Table, input: Input, j: usize) -> bool
+// Whether no masked bit of a byte that is here differs in record j.
+fn may_agree(desc: &[u8], layout: Layout, table: Table, input: Input, j: usize) -> bool
     requires { ⌜ SectionsInBounds (now desc) layout ⌝ }
     requires { ⌜ table .first + table .count ≤ layout .constructors .count ⌝ }
-    requires { ⌜ j + 4 ≤ table .count ⌝ }
-    ensures { λ r. ⌜ (r ≡ true → Skips (patternsOf (now (desc .entry)) layout table) input (table .count) j (j + 4)) ⌝ }
+    requires { ⌜ j < table .count ⌝ }
+    ensures { λ r. ⌜ (r ≡ false → wordsAgree (patternsOf (now (desc .entry)) layout table j) input ≡ false) ⌝ }
 {
-    let first = row(desc, layout, table.first, j);
-    let second = row(desc, layout, table.first, j + 1);
-    let third = row(desc, layout, table.first, j + 2);
-    let fourth = row(desc, layout, table.first, j + 3);
-    apart(first, input) & apart(second, input) & apart(third, input) & apart(fourth, input)
+    let p = row(desc, layout, table.first, j);
+    (input.word ^ p.value) & (p.mask & input.here) == 0
 }
 
-fn skip_fours(desc: &[u8], layout: Layout, table: Table, input: Input, from: usize) -> usize
+// Past the records from one on that do not agree. Most do not, so they have a loop of their own, which takes four at a time.
+fn skip(desc: &[u8], layout: Layout, table: Table, input: Input, from: usize) -> usize
     requires { ⌜ SectionsInBounds (now desc) layout ⌝ }
     requires { ⌜ table .first + table .count ≤ layout .constructors .count ⌝ }
     requires { ⌜ from ≤ table .count ⌝ }
@@ -94,30 +85,25 @@ fn skip_fours(desc: &[u8], layout: Layout, table: Table, input: Input, from: usi
 {
     let mut j = from;
     while table.count - j >= 4 {
-        if four_apart(desc, layout, table, input, j) {
-            j += 4;
-        } else {
+        if may_agree(desc, layout, table, input, j) {
             return j;
         }
+        if may_agree(desc, layout, table, input, j + 1) {
+            return j + 1;
+        }
+        if may_agree(desc, layout, table, input, j + 2) {
+            return j + 2;
+        }
+        if may_agree(desc, layout, table, input, j + 3) {
+            return j + 3;
+        }
+        j += 4;
     }
-    j
-}
-
-// Past the records from one on that are apart.
-fn skip(desc: &[u8], layout: Layout, table: Table, input: Input, from: usize) -> usize
-    requires { ⌜ SectionsInBounds (now desc) layout ⌝ }
-    requires { ⌜ table .first + table .count ≤ layout .constructors .count ⌝ }
-    requires { ⌜ from ≤ table .count ⌝ }
-    ensures { λ r. ⌜ Skips (patternsOf (now (desc .entry)) layout table) input (table .count) from r ⌝ }
-{
-    let mut j = skip_fours(desc, layout, table, input, from);
     while j < table.count {
-        let p = row(desc, layout, table.first, j);
-        if apart(p, input) {
-            j += 1;
-        } else {
+        if may_agree(desc, layout, table, input, j) {
             return j;
         }
+        j += 1;
     }
     j
 }
