@@ -5,16 +5,7 @@ use std::path::Path;
 
 use dookerand::{list, list_answer, Answer, Listing, LINE};
 use generate::bytes;
-use generate::example::{description_s, literal};
-
-/// What S shows for the example's code.
-const CODE: [u8; 4] = [0x13, 0x30, 0x1f, 0x25];
-const LINES: [&str; 4] = [
-    "00000000: inc r3\n",
-    "00000001: .byte 0x30\n",
-    "00000002: halt\n",
-    "00000003: .short\n",
-];
+use generate::example::{description_s, literal, CODE, LINES};
 
 /// More bytes than are lent.
 const MOST: usize = 300;

@@ -74,6 +74,15 @@ pub fn constructor(
     }
 }
 
+/// Document 01's code for description S, and what its listing shows.
+pub const CODE: [u8; 4] = [0x13, 0x30, 0x1f, 0x25];
+pub const LINES: [&str; 4] = [
+    "00000000: inc r3\n",
+    "00000001: .byte 0x30\n",
+    "00000002: halt\n",
+    "00000003: .short\n",
+];
+
 /// Description S.
 pub fn description_s() -> Description {
     Description {

@@ -1,7 +1,7 @@
 //! The listing program's output, and listings in parts.
 
 use generate::bytes;
-use generate::example::{constructor, description_s, literal};
+use generate::example::{constructor, description_s, literal, CODE, LINES};
 use reference::{list, listing, requests, Description, Listed};
 
 fn input(d: &Description, code: &[u8]) -> Vec<u8> {
@@ -89,15 +89,6 @@ fn long_and_empty_texts() {
     assert_eq!(lines(&[255, 2]), "00000000: .long\n00000001: .long\n");
     assert_eq!(lines(&[]), "00000000: \n00000001: \n");
 }
-
-/// What S shows for the example's code.
-const CODE: [u8; 4] = [0x13, 0x30, 0x1f, 0x25];
-const LINES: [&str; 4] = [
-    "00000000: inc r3\n",
-    "00000001: .byte 0x30\n",
-    "00000002: halt\n",
-    "00000003: .short\n",
-];
 
 fn listed(text: &str, lines: usize, next: u64, full: bool) -> Listed {
     Listed {

@@ -36,7 +36,13 @@ impl Uses {
     /// `use .. as NAME`. Other lines, and the code's own types (`specs.declared`), bring no definition.
     fn add(&mut self, line: &str) {
         let line = line.trim().trim_end_matches(';');
-        let Some(rest) = line.strip_prefix("ghost ").unwrap_or(line).strip_prefix("use Rattle·") else { return };
+        let Some(rest) = line
+            .strip_prefix("ghost ")
+            .unwrap_or(line)
+            .strip_prefix("use Rattle·")
+        else {
+            return;
+        };
         let (path, brought) = match (rest.split_once(".{"), rest.split_once(" as ")) {
             (Some((path, names)), _) => (path, Err(names)),
             (None, Some((path, name))) => (path, Ok(name)),
@@ -46,10 +52,15 @@ impl Uses {
         if parts.len() != 3 || parts[1] != "specs" {
             return;
         }
-        let file = (parts[0].trim_end_matches("·specs").to_string(), parts[2].to_string());
+        let file = (
+            parts[0].trim_end_matches("·specs").to_string(),
+            parts[2].to_string(),
+        );
         match brought {
             Ok(name) => drop(self.files.insert(name.to_string(), file)),
-            Err(names) => self.names.extend(words(names).map(|n| (n.to_string(), file.clone()))),
+            Err(names) => self
+                .names
+                .extend(words(names).map(|n| (n.to_string(), file.clone()))),
         }
     }
 
@@ -71,7 +82,8 @@ struct Definitions {
 }
 
 fn words(line: &str) -> impl Iterator<Item = &str> {
-    line.split(|c: char| c.is_whitespace() || "(){}[],;".contains(c)).filter(|w| !w.is_empty())
+    line.split(|c: char| c.is_whitespace() || "(){}[],;".contains(c))
+        .filter(|w| !w.is_empty())
 }
 
 /// The name that a line begins to define; in a record or a datatype it is the name of a part.
@@ -96,7 +108,9 @@ fn read(path: &str) -> Definitions {
             all.uses.add(line);
             continue;
         }
-        let Some(first) = words(line).next() else { continue };
+        let Some(first) = words(line).next() else {
+            continue;
+        };
         all.lines += 1;
         let depth = line.len() - line.trim_start().len();
         type_depth = type_depth.filter(|outer| depth > *outer);
@@ -105,15 +119,23 @@ fn read(path: &str) -> Definitions {
             continue;
         }
         if let Some(name) = head(line).filter(|_| type_depth.is_none()) {
-            type_depth = words(line).any(|w| w == "record" || w == "data").then_some(depth);
+            type_depth = words(line)
+                .any(|w| w == "record" || w == "data")
+                .then_some(depth);
             current = Some(name.to_string());
             head_depth = depth;
-        } else if depth == head_depth && line.trim_start().starts_with(first) && all.words.contains_key(first) {
+        } else if depth == head_depth
+            && line.trim_start().starts_with(first)
+            && all.words.contains_key(first)
+        {
             // an equation
             current = Some(first.to_string());
         }
         if let Some(name) = &current {
-            all.words.entry(name.clone()).or_default().extend(words(line).map(str::to_string));
+            all.words
+                .entry(name.clone())
+                .or_default()
+                .extend(words(line).map(str::to_string));
         }
     }
     for cited in all.words.values_mut() {
@@ -135,7 +157,10 @@ fn promised(home: &str, function: &str) -> Vec<(File, String)> {
         if let Some((_, rest)) = line.split_once("fn ").filter(|_| !line.starts_with("//")) {
             inside = function.is_empty() || rest.split('(').next() == Some(function);
         }
-        assert!(!(inside && line.starts_with("requires")), "{path}: an entry point with a condition: {line}");
+        assert!(
+            !(inside && line.starts_with("requires")),
+            "{path}: an entry point with a condition: {line}"
+        );
         if inside && line.starts_with("ensures") {
             found.extend(words(line).filter_map(|w| uses.find(w)));
         }
@@ -148,7 +173,10 @@ fn promised(home: &str, function: &str) -> Vec<(File, String)> {
 fn reached() -> (BTreeSet<File>, usize) {
     let mut files: BTreeMap<File, Definitions> = BTreeMap::new();
     let mut seen = BTreeSet::new();
-    let mut open: Vec<(File, String)> = ENTRIES.iter().flat_map(|(home, f)| promised(home, f)).collect();
+    let mut open: Vec<(File, String)> = ENTRIES
+        .iter()
+        .flat_map(|(home, f)| promised(home, f))
+        .collect();
     while let Some((file, name)) = open.pop() {
         let path = format!("crates/{}/specs/{}.antt", file.0, file.1);
         let here = files.entry(file.clone()).or_insert_with(|| read(&path));
@@ -181,8 +209,16 @@ fn listed(section: &str) -> BTreeSet<File> {
     for row in section.lines().filter(|l| l.starts_with("| ")).skip(1) {
         let cell = row.trim_end_matches(" |").rsplit("| ").next().unwrap_or("");
         for entry in cell.split(';') {
-            let (home, names) = entry.trim().trim_start_matches('`').split_once("` ").expect("`CRATE` NAMES");
-            files.extend(names.split(',').map(|n| (home.to_string(), n.trim().to_string())));
+            let (home, names) = entry
+                .trim()
+                .trim_start_matches('`')
+                .split_once("` ")
+                .expect("`CRATE` NAMES");
+            files.extend(
+                names
+                    .split(',')
+                    .map(|n| (home.to_string(), n.trim().to_string())),
+            );
         }
     }
     files
