@@ -4,19 +4,18 @@ use mathlib.Core.Bool.{Bool}
 use mathlib.Core.List.{List}
 use mathlib.Core.Path.{_≡_}
 use lib.ListN.{getD}
-use Rattle.format.specs.Numbers.{byteValues, operandsEach, piecesEach}
+use Rattle.format.specs.Numbers.{operandsEach, piecesEach}
 use Rattle.format.specs.Layout.{SectionsInBounds}
 use Rattle.format.specs.Description.{description, constructorsOf, noConstructor}
-use Rattle.format.specs.Rules.{hasTable}
 use Rattle.format.specs.declared.Constructor.{Constructor}
 use Rattle.format.specs.declared.Layout.{Layout}
 use Rattle.format.specs.declared.Range.{Range}
-use Rattle.rules.specs.Marks.{Marks}
+use Rattle.rules.specs.Marks.{tableMarks}
 
 -- the sections lie inside the bytes, and the tables that have a constructor are marked
 pub record Marked (b : List ℕ) (l : Layout) (marks : List Bool) : Type 0 where
   pub room : SectionsInBounds b l
-  pub tables : Marks byteValues marks (hasTable (description b l))
+  pub tables : marks ≡ tableMarks (description b l)
 
 -- .. and c is record i of section 3
 pub record Judging (b : List ℕ) (l : Layout) (marks : List Bool) (i : ℕ) (c : Constructor) : Type 0 where

@@ -4,6 +4,14 @@ use mathlib.Core.Bool.{Bool, false}
 use mathlib.Core.List.{List}
 use mathlib.Core.Path.{_≡_}
 use lib.ListN.{getD}
+use Rattle.lists.specs.Tab.{tab}
+use Rattle.format.specs.Numbers.{byteValues}
+use Rattle.format.specs.Description.{Description}
+use Rattle.format.specs.Rules.{hasTable}
+
+-- for each number that a byte may have, whether a constructor has it as its table
+unfoldable pub tableMarks : Description → List Bool
+tableMarks d = tab (hasTable d) byteValues
 
 -- number k, if below the size, is marked exactly where it is named
 pub record Marks (size : ℕ) (list : List Bool) (named : ℕ → Bool) : Type 0 where

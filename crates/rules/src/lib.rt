@@ -17,7 +17,7 @@ ghost use Rattle.format.specs.Numbers.{namesBits, byteValues};
 ghost use Rattle.format.specs.Layout.{SectionsInBounds};
 ghost use Rattle.format.specs.Description.{description, fieldsOf};
 ghost use Rattle.format.specs.Rules.{sourceOk, bitsOk, lookOk, fieldOk, nameOk, tableOk, hasTable, minimumOk, valueOk, rangeOk, shapeOk, anchorFits, operandFits, pieceFits, constructorOk, fieldFits, operandOk, pieceOk, letterOk};
-ghost use Rattle.rules.specs.Marks.{Marks, shownMarks};
+ghost use Rattle.rules.specs.Marks.{tableMarks, shownMarks};
 ghost use Rattle.rules.specs.Judging.{Marked, Judging, Shaped};
 
 // The marks of the operands shown so far.
@@ -140,7 +140,7 @@ fn shape_ok(desc: &[u8], layout: Layout, i: usize, c: Constructor) -> bool
 // The tables that have a constructor, gathered once for all operands that name one.
 pub fn tables_of(desc: &[u8], layout: Layout) -> [bool; format::BYTE_VALUES]
     requires { ⌜ SectionsInBounds (now desc) layout ⌝ }
-    ensures { λ r. ⌜ Marks byteValues r (hasTable (description (now (desc .entry)) layout)) ⌝ }
+    ensures { λ r. ⌜ r ≡ tableMarks (description (now (desc .entry)) layout) ⌝ }
 {
     let mut marks = [false; format::BYTE_VALUES];
     let n = layout.constructors.count;

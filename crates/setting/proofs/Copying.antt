@@ -7,12 +7,10 @@ use native.Mathlib.Decide.{ℕ-discrete}
 use native.Mathlib.Omega.{arith}
 use lib.ListN.{length, getD, take, drop, set, length-set, length-drop, take-append-drop}
 use lib.Seq.{take-set-le, drop-set-add, getD-set-same, getD-set-other, ext-getD}
-use Rattle.lists.specs.Tab.{tab}
-use Rattle.lists.proofs.Tab.{tab-length, tab-at}
 use Rattle.format.specs.Numbers.{tables}
 use Rattle.format.specs.Description.{Description}
-use Rattle.format.specs.Tables.{tableFirst}
-use Rattle.tables.specs.Starts.{Starts}
+use Rattle.tables.specs.Starts.{tableStarts}
+use Rattle.tables.proofs.FirstConstructors.{starts-length}
 use Rattle.setting.specs.Fixed.{startsPlace, startsOf}
 
 -- t of them are copied
@@ -37,13 +35,12 @@ copy-more starts fixed all t v c h e =
     go k l (yes p) = rw (p, getD-set-same (drop startsPlace all) t v 0 (omega (arith, length-drop startsPlace all, c .long))) e
     go k l (no p) = getD-set-other (drop startsPlace all) t k v 0 p ∙ c .back k (omega arith)
 
-pub copy-all : (d : Description) (starts fixed all : List ℕ) (t : ℕ) → Starts d starts → Copied starts fixed all t → tables + 1 ≤ t
+pub copy-all : (d : Description) (starts fixed all : List ℕ) (t : ℕ) → starts ≡ tableStarts d → Copied starts fixed all t → tables + 1 ≤ t
     → all ≡ take startsPlace fixed ++ startsOf d true
 copy-all d starts fixed all t s c h =
+    let long : length starts ≡ tables + 1 = rw s (starts-length d) in
     sym (take-append-drop startsPlace all)
-    ∙ rw (c .front)
+    ∙ rw (c .front, ← s)
     (ap (λ (l : List ℕ). take startsPlace fixed ++ l)
-    (ext-getD 0 (drop startsPlace all) (tab (tableFirst d) (tables + 1)) (omega (arith, length-drop startsPlace all, c .long, tab-length (tableFirst d) (tables + 1)))
-    λ i l.
-    let low : i < tables + 1 = omega (arith, length-drop startsPlace all, c .long) in
-    c .back i (omega arith) ∙ s .at i (omega arith) ∙ sym (tab-at (tableFirst d) (tables + 1) i 0 low)))
+    (ext-getD 0 (drop startsPlace all) starts (omega (arith, length-drop startsPlace all, c .long, long))
+    λ i l. c .back i (omega (arith, length-drop startsPlace all, c .long))))

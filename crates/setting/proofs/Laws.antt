@@ -6,7 +6,6 @@ use mathlib.Core.Path.{_≡_, refl, sym, ap, _∙_}
 use native.Mathlib.Omega.{arith}
 use lib.ListN.{length, getD, drop, set, length-set}
 use lib.Seq.{getD-drop, drop-set-lt, getD-set-same, getD-set-other}
-use Rattle.lists.proofs.Tab.{tab-at, tab-length}
 use Rattle.format.specs.Numbers.{tables, mostConstructors}
 use Rattle.format.specs.Check.{WellFormed}
 use Rattle.format.specs.Description.{Description, description}
@@ -15,7 +14,8 @@ use Rattle.format.specs.declared.Layout.{Layout}
 use Rattle.format.proofs.Formation.{RulesHold, obeyed}
 use Rattle.format.proofs.Lists.{constructors-length}
 use Rattle.format.proofs.Tables.{end-is, first-within}
-use Rattle.tables.specs.Starts.{Starts}
+use Rattle.tables.specs.Starts.{tableStarts}
+use Rattle.tables.proofs.FirstConstructors.{starts-length, start-at}
 use Rattle.tables.specs.declared.Table.{Table}
 use Rattle.tables.proofs.Range.{in-section}
 use Rattle.choosing_spec.specs.Choosing.{choose}
@@ -44,7 +44,7 @@ few-in b a f = rw (constructors-length b (layoutIn a)) (f .formed .room .few)
 -- the numbers that `fill` makes are those of their description
 pub fixed-of : (b : List ℕ) (l : Layout) (gather : Bool) → WellFormed b l → Fixed b (fixedOf (description b l) l gather)
 unfolding fixedOf
-fixed-of b l true f = record { long = let e = tab-length (tableFirst (description b l)) (tables + 1) in omega arith; formed = f; gathered = λ z. record { at = λ t h. tab-at (tableFirst (description b l)) (tables + 1) t 0 (omega arith) } }
+fixed-of b l true f = record { long = let e = starts-length (description b l) in omega arith; formed = f; gathered = λ z. refl }
 fixed-of b l false f = record { long = refl; formed = f; gathered = λ z. absurd (omega arith) }
 
 pub setting-of : (b : List ℕ) (l : Layout) (gather : Bool) → settingIn b (fixedOf (description b l) l gather) .description ≡ description b l
@@ -72,12 +72,15 @@ module _ (b a : List ℕ) (n : ℕ) where
   unfolding settingIn
   setting-for h = rw (layout-for, getD-set-same a totalPlace n 0 h)
 
-module _ (d : Description) (o : RulesHold d) (t : ℕ) (low : t < tables) (a : List ℕ) (starts : Starts d (drop startsPlace a)) where
+module _ (d : Description) (o : RulesHold d) (t : ℕ) (low : t < tables) (a : List ℕ) (starts : drop startsPlace a ≡ tableStarts d) where
+  at : (k : ℕ) → k ≤ tables → getD a (startsPlace + k) 0 ≡ tableFirst d k
+  at k h = sym (getD-drop startsPlace a k 0) ∙ rw starts (start-at d k h)
+
   here : getD a (startsPlace + t) 0 ≡ tableFirst d t
-  here = sym (getD-drop startsPlace a t 0) ∙ starts .at t (omega arith)
+  here = at t (omega arith)
 
   next : getD a (startsPlace + t + 1) 0 ≡ tableEnd d t
-  next = ap (λ (k : ℕ). getD a k 0) (omega arith) ∙ sym (getD-drop startsPlace a (t + 1) 0) ∙ starts .at (t + 1) (omega arith) ∙ sym (end-is d t)
+  next = ap (λ (k : ℕ). getD a k 0) (omega arith) ∙ at (t + 1) (omega arith) ∙ sym (end-is d t)
 
   pub in-order : getD a (startsPlace + t) 0 ≤ getD a (startsPlace + t + 1) 0
   in-order = rw (here, next) (first-within d o t)

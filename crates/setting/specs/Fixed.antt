@@ -5,14 +5,12 @@ use mathlib.Core.Bool.{Bool, true, false}
 use mathlib.Core.List.{List, [], _∷_, _++_}
 use mathlib.Core.Path.{_≡_}
 use lib.ListN.{length, getD, drop, replicate}
-use Rattle.lists.specs.Tab.{tab}
 use Rattle.format.specs.Numbers.{tables}
 use Rattle.format.specs.Check.{WellFormed}
 use Rattle.format.specs.Description.{Description, description}
-use Rattle.format.specs.Tables.{tableFirst}
 use Rattle.format.specs.declared.Section.{Section}
 use Rattle.format.specs.declared.Layout.{Layout}
-use Rattle.tables.specs.Starts.{Starts}
+use Rattle.tables.specs.Starts.{tableStarts}
 use Rattle.decoding_spec.specs.State.{Setting}
 
 abbrev pub sectionNumbers : Section → List ℕ → List ℕ
@@ -34,7 +32,7 @@ flag false = 0
 
 -- gathered: the first constructor of each table, and the section's count behind the last
 abbrev pub startsOf : Description → Bool → List ℕ
-startsOf d true = tab (tableFirst d) (tables + 1)
+startsOf d true = tableStarts d
 startsOf d false = replicate (tables + 1) 0
 
 -- the numbers for a description with these places, before a walk is told its input's length
@@ -69,4 +67,4 @@ settingIn b a = record { description = description b (layoutIn a); total = getD 
 pub record Fixed (b a : List ℕ) : Type 0 where
   pub long : length a ≡ startsPlace + (tables + 1)
   pub formed : WellFormed b (layoutIn a)
-  pub gathered : getD a gatheredPlace 0 ≡ 1 → Starts (description b (layoutIn a)) (drop startsPlace a)
+  pub gathered : getD a gatheredPlace 0 ≡ 1 → drop startsPlace a ≡ tableStarts (description b (layoutIn a))

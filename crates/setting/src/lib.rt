@@ -11,15 +11,14 @@ use tables::Table;
 ghost use mathlib.Core.List.{_++_};
 ghost use mathlib.Core.Path.{_≡_};
 ghost use Prim.Native.Nat.{_+_, _-_, _<_, _≤_};
-ghost use lib.ListN.{length, getD, take, drop, set};
+ghost use lib.ListN.{length, getD, take, drop};
 ghost use Rattle.format.specs.Numbers.{tables};
 ghost use Rattle.format.specs.Check.{WellFormed};
 ghost use Rattle.format.specs.Description.{description, noField, noName, noConstructor, noOperand, noPiece};
 ghost use Rattle.format.specs.Tables.{rootOf};
-ghost use Rattle.tables.specs.Starts.{Starts};
 ghost use Rattle.decoding_spec.specs.Walk.{choiceIn};
 ghost use mathlib.Core.Bool.{true};
-ghost use Rattle.setting.specs.Fixed.{startsOf, fixedOf, layoutIn, settingIn, Fixed, totalPlace, startsPlace};
+ghost use Rattle.setting.specs.Fixed.{startsOf, fixedOf, layoutIn, settingIn, Fixed, startsPlace};
 ghost use Rattle.setting.specs.Ranges.{RangeOf};
 
 const TEXT_START: usize = 10;

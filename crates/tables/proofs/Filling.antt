@@ -8,14 +8,15 @@ use native.Mathlib.Omega.{arith}
 use borrow.Author.Tests.{lt-ltb, le-ltb, ltb-true, ltb-false}
 use lib.Dec.{ltb}
 use lib.ListN.{length, getD, set, length-set}
-use lib.Seq.{getD-set-same, getD-set-other}
+use lib.Seq.{getD-set-same, getD-set-other, ext-getD}
 use Rattle.lists.proofs.Below.{first-here, all-of}
 use Rattle.lists.proofs.Bools.{and-left, and-right}
 use Rattle.format.specs.Numbers.{tables}
 use Rattle.format.specs.Description.{Description}
 use Rattle.format.specs.Rules.{tableAt}
 use Rattle.format.specs.Tables.{tableFirst}
-use Rattle.tables.specs.Starts.{Starts}
+use Rattle.tables.specs.Starts.{tableStarts}
+use Rattle.tables.proofs.FirstConstructors.{starts-length, start-at}
 
 -- the first i of n constructors have tables below t, and the list has the first constructors of the tables below t
 pub record Filled (d : Description) (n : ℕ) (a : List ℕ) (t i : ℕ) : Type 0 where
@@ -83,5 +84,7 @@ module _ (d : Description) (n : ℕ) (a : List ℕ) where
           go u (yes p) g = getD-set-other a t u i 0 (λ s. absurd (omega arith)) ∙ f .filled u p
           go u (no p) g = let s : u ≡ t = omega arith in rw s (getD-set-same a t i 0 (omega (arith, f .long)) ∙ here)
 
-  pub fill-all : (t i : ℕ) → Filled d n a t i → tables + 1 ≤ t → Starts d a
-  fill-all t i f h = record { at = λ u g. f .filled u (omega arith) }
+  pub fill-all : (t i : ℕ) → Filled d n a t i → tables + 1 ≤ t → a ≡ tableStarts d
+  fill-all t i f h =
+      ext-getD 0 a (tableStarts d) (f .long ∙ sym (starts-length d))
+      (λ u g. f .filled u (omega (arith, f .long)) ∙ sym (start-at d u (omega (arith, f .long))))

@@ -2,16 +2,14 @@
 use format::Layout;
 ghost use mathlib.Core.Bool.{_&&_};
 ghost use mathlib.Core.Path.{_≡_};
-ghost use Prim.Native.Nat.{_+_, _-_, _<_, _≤_};
+ghost use Prim.Native.Nat.{_<_};
 ghost use lib.Dec.{ltb};
-ghost use lib.ListN.{getD};
-ghost use Rattle.format.specs.Numbers.{tables};
 ghost use Rattle.format.specs.Layout.{SectionsInBounds};
 ghost use Rattle.format.specs.Description.{description};
 ghost use Rattle.format.specs.Check.{WellFormed};
 ghost use Rattle.format.specs.Rules.{tableAt};
 ghost use Rattle.format.specs.Tables.{rootOf, tableFirst, tableCount};
-ghost use Rattle.tables.specs.Starts.{Starts};
+ghost use Rattle.tables.specs.Starts.{tableStarts};
 
 // A table has a number below TABLES; one more than that has the section's count.
 pub const STARTS: usize = (format::TABLES as usize) + 1;
@@ -77,7 +75,7 @@ fn is_below(desc: &[u8], layout: Layout, i: usize, t: usize) -> bool
 // The first constructor of every table, for those who ask many times: one pass over the constructors and the tables' numbers.
 pub fn starts(desc: &[u8], layout: Layout) -> [usize; STARTS]
     requires { ⌜ WellFormed (now desc) layout ⌝ }
-    ensures { λ r. ⌜ Starts (description (now (desc .entry)) layout) r ⌝ }
+    ensures { λ r. ⌜ r ≡ tableStarts (description (now (desc .entry)) layout) ⌝ }
 {
     let mut starts = [0usize; STARTS];
     let mut t = 0;
@@ -91,19 +89,4 @@ pub fn starts(desc: &[u8], layout: Layout) -> [usize; STARTS]
         }
     }
     starts
-}
-
-pub fn table_by(starts: &[usize; STARTS], t: u8) -> Table
-    requires { ⌜ t < tables ⌝ }
-    requires { ⌜ getD (now starts) t 0 ≤ getD (now starts) (t + 1) 0 ⌝ }
-    ensures { λ r. ⌜ r .first ≡ getD (now (starts .entry)) t 0 ⌝ }
-    ensures { λ r. ⌜ r .count ≡ getD (now (starts .entry)) (t + 1) 0 - getD (now (starts .entry)) t 0 ⌝ }
-{
-    let at = t as usize;
-    let first = starts[at];
-    let end = starts[at + 1];
-    Table {
-        first,
-        count: end - first,
-    }
 }

@@ -1,5 +1,6 @@
 use Rattle.format.specs.Rules.{operandFits}
 use Rattle.format.specs.Description.{description}
+use Rattle.rules.proofs.Gathered.{table-marks}
 use Rattle.lists.proofs.Below.{all-none, all-more, all-stop}
 use Rattle.lists.specs.Below.{allBelow}
 use borrow.Author.Needs.{needs}
@@ -25,7 +26,7 @@ unfolding operandFits
 fits-is c =
     let s = c .before .before .before .before .before .before .before in
     c .operand-fits .ensures
-    ∙ rw (s .pre .0 .tables .marked (c .before .operand-at .result .index) (search needs), c .before .operand-at .ensures)
+    ∙ rw (s .pre .0 .tables, table-marks _ .marked (c .before .operand-at .result .index) (search needs), c .before .operand-at .ensures)
 
 loop-holds : tie.Need-loop-holds Inv-loop μ-loop
 loop-holds c = (omega arith, all-none _)

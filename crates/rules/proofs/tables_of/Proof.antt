@@ -1,4 +1,4 @@
-use Rattle.rules.proofs.Gathered.{marks-none, marks-one}
+use Rattle.rules.proofs.Gathered.{marks-none, marks-one, marks-all}
 use Rattle.format.specs.Numbers.{byteValues}
 use Rattle.rules.specs.Marks.{Marks}
 use Rattle.format.proofs.Lists.{constructors-length}
@@ -47,7 +47,7 @@ unfolding hasTable
 returns c =
     let inv = c .before .loop .inv in
     let s : c .before .loop .i ≡ c .before .before .before .args .layout .constructors .count = omega arith in
-    record { marked = λ k h. inv .3 .marked k h ∙ rw (constructors-length, s) }
+    marks-all _ _ (inv .1) (record { marked = λ k h. inv .3 .marked k h ∙ rw (constructors-length, s) })
 
 pub tables-of-spec : {M : Type 1} → statement M
 tables-of-spec =
