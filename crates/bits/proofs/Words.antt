@@ -45,11 +45,11 @@ alike-bits x y m hx hy hm =
     (either (λ y. Alike 0 y m) (either (Alike 0 0) refl refl m hm) (either (Alike 0 1) refl refl m hm) y hy)
     (either (λ y. Alike 1 y m) (either (Alike 1 0) refl refl m hm) (either (Alike 1 1) refl refl m hm) y hy) x hx
 
-pub agrees-law : (n a b m : ℕ) → a < 2 ^ n → b < 2 ^ n → m < 2 ^ n
+pub agrees-law : (n a b m : ℕ) → m < 2 ^ n
     → eqb (bitAnd (bitXor a b) m) 0 ≡ allBelow n (λ k. not (isSet m k) || eqb (bit a k) (bit b k))
-agrees-law n a b m p q r =
-    zero-test n (bitAnd (bitXor a b) m) (λ k. not (isSet m k) || eqb (bit a k) (bit b k)) (and-lt n (bitXor a b) m (xor-lt n a b p q) r)
-    (λ k h.
+agrees-law n a b m h =
+    zero-test n (bitAnd (bitXor a b) m) (λ k. not (isSet m k) || eqb (bit a k) (bit b k)) (omega (arith, and-le-r (bitXor a b) m))
+    (λ k l.
     rw (bit-and (bitXor a b) m k, bit-xor a b k)
     (alike-bits (bit a k) (bit b k) (bit m k) (bit-small a k) (bit-small b k) (bit-small m k)))
 

@@ -1,11 +1,12 @@
 -- What the scan knows, one record further.
-use Prim.Native.Nat.{ℕ, zero, suc, _+_, _-_, _<_, _≤_}
+use Prim.Native.Nat.{ℕ, zero, suc, _+_, _-_, _<_, _≤_, _^_}
 use mathlib.Core.Bool.{Bool, true, false, cond, not, _&&_, _||_, false≢true}
 use mathlib.Core.Path.{_≡_, refl, sym, ap, _∙_}
 use native.Mathlib.Decide.{ℕ-discrete}
+use native.Mathlib.Nat.{mod-eq-of-lt}
 use native.Mathlib.Omega.{arith}
 use borrow.Author.Tests.{eq-eqb, ne-eqb, not-false}
-use lib.Bits.{bitAnd, bitXor}
+use lib.Bits.{bitAnd, bitXor, and-mask}
 use lib.Dec.{eqb}
 use Rattle.lists.specs.Below.{allBelow, anyBelow}
 use Rattle.lists.proofs.Below.{any-none, any-more, any-at, all-at, all-of}
@@ -214,9 +215,12 @@ module _ (at : ℕ → Pattern) (hit : ℕ → Bool) (n t : ℕ) where
       go j l (no q) true e = let r = m .above j l q e in rw (ne-eqb j t q, e, r .0, r .1)
       go j l (no q) false e = rw (ne-eqb j t q, e)
 
--- a record whose bytes differ does not agree
-pub differing : (p : Pattern) (i : Input) → eqb (bitAnd (bitXor (i .word) (p .value)) (bitAnd (p .mask) (i .here))) 0 ≡ false → wordsAgree p i ≡ false
-differing p i h = rw h
+-- where all bytes are here, a record whose bytes differ does not agree
+pub differing : (p : Pattern) (i : Input) → p .mask < 2 ^ 64 → i .here ≡ 2 ^ 64 - 1 → eqb (bitAnd (bitXor (i .word) (p .value)) (p .mask)) 0 ≡ false
+    → wordsAgree p i ≡ false
+differing p i m e h =
+    let w : bitAnd (p .mask) (i .here) ≡ p .mask = rw e (and-mask (p .mask) 64 ∙ mod-eq-of-lt m) in
+    rw (w, h)
 
 -- records that are passed over
 module _ (at : ℕ → Pattern) (i : Input) (n from : ℕ) where

@@ -9,10 +9,13 @@ use lib.Dec.{lit<}
 use lib.ListN.{getD, List·getD-eq-default}
 use Rattle.lists.specs.Below.{anyBelow}
 use Rattle.lists.proofs.Below.{any-found}
-use Rattle.format.specs.Description.{description, constructorsOf, noConstructor}
+use Rattle.format.specs.Description.{description, recordsOf, constructorsOf, noConstructor}
 use Rattle.format.specs.declared.Layout.{Layout}
 use Rattle.format.specs.declared.Pattern.{Pattern}
-use Rattle.format.proofs.Lists.{constructor-here, constructors-length}
+use Rattle.format.specs.Numbers.{constructorBytes}
+use Rattle.format.specs.Record.{patternAt, constructorAt}
+use Rattle.format.specs.declared.Section.{Section}
+use Rattle.format.proofs.Lists.{record-here, records-length}
 use Rattle.patterns.specs.Matching.{matches, cutOff}
 use Rattle.patterns.specs.Words.{Small, inputOf}
 use Rattle.patterns.specs.declared.Input.{Input}
@@ -25,20 +28,26 @@ use Rattle.choosing_theorems.specs.Taken.{Strict}
 use Rattle.choosing_theorems.proofs.None.{none-at}
 use Rattle.choosing_theorems.proofs.Taken.{choose-short, choose-taken, choose-ambiguous, no-match-back}
 use Rattle.choosing_spec.specs.Table.{patternFrom}
+use Rattle.choosing.specs.Patterns.{patternIn}
 use Rattle.choosing.specs.Scan.{wordShort, wordMatch, Inmost, ChoiceHolds}
 
--- a description's patterns fit their words
-module _ (b : List ℕ) (l : Layout) (bytes : (i : ℕ) → getD b i 0 < 256) where
-  pub rows-small : (first j : ℕ) → Small (patternFrom (description b l) first j)
-  unfolding patternFrom
-  rows-small first j = go (decLt (first + j) (l .constructors .count))
+-- a pattern is read at its record's place
+pub pattern-here : (b : List ℕ) (s : Section) (first j : ℕ) → first + j < s .count → patternAt b (s .start + constructorBytes * (first + j)) ≡ patternIn b s first j
+unfolding patternIn
+pattern-here b s first j h = ap (λ r. r .pattern) (sym (record-here constructorAt constructorBytes b s (first + j) noConstructor h))
+
+-- patterns that are read from bytes fit their words
+module _ (b : List ℕ) (bytes : (i : ℕ) → getD b i 0 < 256) where
+  pub patterns-small : (s : Section) (first j : ℕ) → Small (patternIn b s first j)
+  unfolding patternIn
+  patterns-small s first j = go (decLt (first + j) (s .count))
     where
       at : ℕ
-      at = l .constructors .start + 32 * (first + j)
+      at = s .start + constructorBytes * (first + j)
 
-      go : Dec (first + j < l .constructors .count) → Small (getD (constructorsOf b l) (first + j) noConstructor .pattern)
+      go : Dec (first + j < s .count) → Small (getD (recordsOf constructorAt constructorBytes b s) (first + j) noConstructor .pattern)
       go (yes h) =
-          rw (constructor-here b l (first + j) h)
+          rw (record-here constructorAt constructorBytes b s (first + j) noConstructor h)
           (record {
             mask = quad-small b bytes (at + 2);
             value = quad-small b bytes (at + 10);
@@ -46,17 +55,30 @@ module _ (b : List ℕ) (l : Layout) (bytes : (i : ℕ) → getD b i 0 < 256) wh
             contextvalue = long-small b bytes (at + 22);
           })
       go (no h) =
-          let e : getD (constructorsOf b l) (first + j) noConstructor ≡ noConstructor = List·getD-eq-default (constructorsOf b l) noConstructor (rw constructors-length (omega arith)) in
+          let e : getD (recordsOf constructorAt constructorBytes b s) (first + j) noConstructor ≡ noConstructor = List·getD-eq-default (recordsOf constructorAt constructorBytes b s) noConstructor (rw (records-length constructorAt constructorBytes b s) (omega arith)) in
           rw e (record { mask = lit< tt; value = lit< tt; contextmask = lit< tt; contextvalue = lit< tt })
+
+-- a description's patterns are those of its constructors' section
+pub patterns-are : (b : List ℕ) (l : Layout) (first : ℕ) → patternIn b (l .constructors) first ≡ patternFrom (description b l) first
+unfolding patternIn patternFrom constructorsOf
+patterns-are b l first = refl
+
+-- so choosing by the section is choosing in the description
+pub described : (b : List ℕ) (l : Layout) (first n : ℕ) (s : List ℕ) (c : ℕ) (q : Choice) → choose (patternIn b (l .constructors) first) n s c ≡ q
+    → choose (patternFrom (description b l) first) n s c ≡ q
+described b l first n s c q e = rw (← patterns-are b l first) e
+
+pub rows-small : (b : List ℕ) (l : Layout) (bytes : (i : ℕ) → getD b i 0 < 256) (first j : ℕ) → Small (patternFrom (description b l) first j)
+rows-small b l bytes first j = rw (← patterns-are b l first) (patterns-small b bytes (l .constructors) first j)
 
 twice : (a : Bool) → not (not a) ≡ a
 twice true = refl
 twice false = refl
 
 module _ (at : ℕ → Pattern) (n : ℕ) (s : List ℕ) (c : ℕ) (i : Input) (small : (j : ℕ) → Small (at j)) (bytes : (k : ℕ) → getD s k 0 < 256)
-    (narrow : c < 2 ^ 32) (is : i ≡ inputOf s c) where
+    (is : i ≡ inputOf s c) where
   held : Holds s c i
-  held = rw is (input-holds s c bytes narrow)
+  held = rw is (input-holds s c bytes)
 
   short-is : (j : ℕ) → wordShort at i j ≡ short at n s c j
   unfolding short cutOff

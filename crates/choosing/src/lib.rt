@@ -2,17 +2,19 @@
 use choosing_spec::Choice;
 use format::Layout;
 use format::Pattern;
+use format::Section;
 use patterns::Input;
 use tables::Table;
 ghost use mathlib.Core.Bool.{true, false};
 ghost use mathlib.Core.Path.{_≡_};
-ghost use Prim.Native.Nat.{_+_, _<_, _≤_};
-ghost use Rattle.format.specs.Layout.{SectionsInBounds};
+ghost use Prim.Native.Nat.{_+_, _-_, _<_, _≤_, _^_};
+ghost use Rattle.format.specs.Layout.{SectionsInBounds, inside};
+ghost use Rattle.format.specs.Numbers.{constructorBytes};
 ghost use Rattle.format.specs.Description.{description};
 ghost use Rattle.patterns.specs.Words.{wordsAgree};
 ghost use Rattle.choosing_spec.specs.Choosing.{choose};
 ghost use Rattle.choosing_spec.specs.Table.{patternFrom};
-ghost use Rattle.choosing.specs.Patterns.{patternsOf};
+ghost use Rattle.choosing.specs.Patterns.{patternIn, patternsIn};
 ghost use Rattle.choosing.specs.Scan.{withMatch, clearsAll, Skips, ScanResult, Passed, ChoiceOf};
 
 // What a pass has found so far: whether a record matches, the one that lies inside the others, and whether that is in doubt.
@@ -35,15 +37,34 @@ pub fn row(desc: &[u8], layout: Layout, first: usize, j: usize) -> Pattern
     sections::pattern_of(desc, layout, first + j)
 }
 
+// The same by the constructors' section alone: choosing asks for nothing else of a layout.
+fn pattern_in(desc: &[u8], constructors: Section, first: usize, j: usize) -> Pattern
+    requires { ⌜ inside (now desc) constructorBytes constructors ⌝ }
+    requires { ⌜ first + j < constructors .count ⌝ }
+    ensures { λ r. ⌜ r ≡ patternIn (now (desc .entry)) constructors first j ⌝ }
+{
+    format::pattern_at(
+        desc,
+        constructors.start + (format::CONSTRUCTOR_BYTES as usize) * (first + j),
+    )
+}
+
 // One more matching record, with its pattern.
-fn with_match(desc: &[u8], layout: Layout, first: usize, best: Best, j: usize, p: Pattern) -> Best
-    requires { ⌜ SectionsInBounds (now desc) layout ⌝ }
-    requires { ⌜ (best .found ≡ true → first + best .at < layout .constructors .count) ⌝ }
-    requires { ⌜ p ≡ patternFrom (description (now desc) layout) first j ⌝ }
-    ensures { λ r. ⌜ r ≡ withMatch (patternFrom (description (now (desc .entry)) layout) first) best j ⌝ }
+fn with_match(
+    desc: &[u8],
+    constructors: Section,
+    first: usize,
+    best: Best,
+    j: usize,
+    p: Pattern,
+) -> Best
+    requires { ⌜ inside (now desc) constructorBytes constructors ⌝ }
+    requires { ⌜ (best .found ≡ true → first + best .at < constructors .count) ⌝ }
+    requires { ⌜ p ≡ patternIn (now desc) constructors first j ⌝ }
+    ensures { λ r. ⌜ r ≡ withMatch (patternIn (now (desc .entry)) constructors first) best j ⌝ }
 {
     if best.found {
-        let q = row(desc, layout, first, best.at);
+        let q = pattern_in(desc, constructors, first, best.at);
         let outer = patterns::lies_inside(q, p);
         if patterns::lies_inside(p, q) {
             return Best {
@@ -65,42 +86,42 @@ fn with_match(desc: &[u8], layout: Layout, first: usize, best: Best, j: usize, p
     }
 }
 
-// Whether no masked bit of a byte that is here differs in record j.
-fn may_agree(desc: &[u8], layout: Layout, table: Table, input: Input, j: usize) -> bool
-    requires { ⌜ SectionsInBounds (now desc) layout ⌝ }
-    requires { ⌜ table .first + table .count ≤ layout .constructors .count ⌝ }
-    requires { ⌜ j < table .count ⌝ }
-    ensures { λ r. ⌜ (r ≡ false → wordsAgree (patternsOf (now (desc .entry)) layout table j) input ≡ false) ⌝ }
+// Whether no masked bit of the bytes, which are all here, differs in record j.
+fn may_agree(desc: &[u8], constructors: Section, table: Table, input: Input, j: usize) -> bool
+    requires { ⌜ inside (now desc) constructorBytes constructors ⌝ }
+    requires { ⌜ table .first + table .count ≤ constructors .count ⌝ }
+    requires { ⌜ (j < table .count) × (input .here ≡ 2 ^ 64 - 1) ⌝ }
+    ensures { λ r. ⌜ (r ≡ false → wordsAgree (patternsIn (now (desc .entry)) constructors table j) input ≡ false) ⌝ }
 {
-    let p = row(desc, layout, table.first, j);
-    (input.word ^ p.value) & (p.mask & input.here) == 0
+    let p = pattern_in(desc, constructors, table.first, j);
+    (input.word ^ p.value) & p.mask == 0
 }
 
-// Past the records from one on that do not agree. Most do not, so they have a loop of their own, which takes four at a time.
-fn skip(desc: &[u8], layout: Layout, table: Table, input: Input, from: usize) -> usize
-    requires { ⌜ SectionsInBounds (now desc) layout ⌝ }
-    requires { ⌜ table .first + table .count ≤ layout .constructors .count ⌝ }
-    requires { ⌜ from ≤ table .count ⌝ }
-    ensures { λ r. ⌜ Skips (patternsOf (now (desc .entry)) layout table) input (table .count) from r ⌝ }
+// Past the records from one on that do not agree, four at a time, where all bytes are here.
+fn skip_fours(desc: &[u8], constructors: Section, table: Table, input: Input, from: usize) -> usize
+    requires { ⌜ inside (now desc) constructorBytes constructors ⌝ }
+    requires { ⌜ table .first + table .count ≤ constructors .count ⌝ }
+    requires { ⌜ (from ≤ table .count) × (input .here ≡ 2 ^ 64 - 1) ⌝ }
+    ensures { λ r. ⌜ Skips (patternsIn (now (desc .entry)) constructors table) input (table .count) from r ⌝ }
 {
     let mut j = from;
     while table.count - j >= 4 {
-        if may_agree(desc, layout, table, input, j) {
+        if may_agree(desc, constructors, table, input, j) {
             return j;
         }
-        if may_agree(desc, layout, table, input, j + 1) {
+        if may_agree(desc, constructors, table, input, j + 1) {
             return j + 1;
         }
-        if may_agree(desc, layout, table, input, j + 2) {
+        if may_agree(desc, constructors, table, input, j + 2) {
             return j + 2;
         }
-        if may_agree(desc, layout, table, input, j + 3) {
+        if may_agree(desc, constructors, table, input, j + 3) {
             return j + 3;
         }
         j += 4;
     }
     while j < table.count {
-        if may_agree(desc, layout, table, input, j) {
+        if may_agree(desc, constructors, table, input, j) {
             return j;
         }
         j += 1;
@@ -108,10 +129,23 @@ fn skip(desc: &[u8], layout: Layout, table: Table, input: Input, from: usize) ->
     j
 }
 
-fn scan(desc: &[u8], layout: Layout, table: Table, input: Input) -> Scanned
-    requires { ⌜ SectionsInBounds (now desc) layout ⌝ }
-    requires { ⌜ table .first + table .count ≤ layout .constructors .count ⌝ }
-    ensures { λ r. ⌜ ScanResult (patternsOf (now (desc .entry)) layout table) input (table .count) r ⌝ }
+// Past the records from one on that do not agree. Most do not, so they have a loop of their own.
+fn skip(desc: &[u8], constructors: Section, table: Table, input: Input, from: usize) -> usize
+    requires { ⌜ inside (now desc) constructorBytes constructors ⌝ }
+    requires { ⌜ table .first + table .count ≤ constructors .count ⌝ }
+    requires { ⌜ from ≤ table .count ⌝ }
+    ensures { λ r. ⌜ Skips (patternsIn (now (desc .entry)) constructors table) input (table .count) from r ⌝ }
+{
+    if input.here == patterns::ALL {
+        return skip_fours(desc, constructors, table, input, from);
+    }
+    from
+}
+
+fn scan(desc: &[u8], constructors: Section, table: Table, input: Input) -> Scanned
+    requires { ⌜ inside (now desc) constructorBytes constructors ⌝ }
+    requires { ⌜ table .first + table .count ≤ constructors .count ⌝ }
+    ensures { λ r. ⌜ ScanResult (patternsIn (now (desc .entry)) constructors table) input (table .count) r ⌝ }
 {
     let mut best = Best {
         found: false,
@@ -120,15 +154,15 @@ fn scan(desc: &[u8], layout: Layout, table: Table, input: Input) -> Scanned
     };
     let mut next = 0;
     while next < table.count {
-        let j = skip(desc, layout, table, input, next);
+        let j = skip(desc, constructors, table, input, next);
         if j == table.count {
             return Scanned::Complete(best);
         }
         next = j + 1;
-        let p = row(desc, layout, table.first, j);
+        let p = pattern_in(desc, constructors, table.first, j);
         if patterns::agrees(p, input) {
             if patterns::whole(p, input) {
-                best = with_match(desc, layout, table.first, best, j, p);
+                best = with_match(desc, constructors, table.first, best, j, p);
             } else {
                 return Scanned::CutOff;
             }
@@ -137,16 +171,16 @@ fn scan(desc: &[u8], layout: Layout, table: Table, input: Input) -> Scanned
     Scanned::Complete(best)
 }
 
-fn clears_all(desc: &[u8], layout: Layout, table: Table, input: Input, t: usize) -> bool
-    requires { ⌜ SectionsInBounds (now desc) layout ⌝ }
-    requires { ⌜ table .first + table .count ≤ layout .constructors .count ⌝ }
+fn clears_all(desc: &[u8], constructors: Section, table: Table, input: Input, t: usize) -> bool
+    requires { ⌜ inside (now desc) constructorBytes constructors ⌝ }
+    requires { ⌜ table .first + table .count ≤ constructors .count ⌝ }
     requires { ⌜ t < table .count ⌝ }
-    ensures { λ r. ⌜ r ≡ clearsAll (patternsOf (now (desc .entry)) layout table) input (table .count) t ⌝ }
+    ensures { λ r. ⌜ r ≡ clearsAll (patternsIn (now (desc .entry)) constructors table) input (table .count) t ⌝ }
 {
-    let q = row(desc, layout, table.first, t);
+    let q = pattern_in(desc, constructors, table.first, t);
     let mut j = 0;
     while j < table.count {
-        let p = row(desc, layout, table.first, j);
+        let p = pattern_in(desc, constructors, table.first, j);
         let hit = patterns::agrees(p, input) & patterns::whole(p, input);
         let clear = (j == t) | !hit | (patterns::lies_inside(q, p) & !patterns::lies_inside(p, q));
         if clear {
@@ -159,15 +193,15 @@ fn clears_all(desc: &[u8], layout: Layout, table: Table, input: Input, t: usize)
 }
 
 // Where the pass left no doubt, its record is taken; else every record is looked at once more.
-fn settle(desc: &[u8], layout: Layout, table: Table, input: Input, best: Best) -> Choice
-    requires { ⌜ SectionsInBounds (now desc) layout ⌝ }
-    requires { ⌜ table .first + table .count ≤ layout .constructors .count ⌝ }
-    requires { ⌜ Passed (patternsOf (now desc) layout table) input (table .count) best ⌝ }
-    ensures { λ r. ⌜ ChoiceOf (patternsOf (now (desc .entry)) layout table) input (table .count) r ⌝ }
+fn settle(desc: &[u8], constructors: Section, table: Table, input: Input, best: Best) -> Choice
+    requires { ⌜ inside (now desc) constructorBytes constructors ⌝ }
+    requires { ⌜ table .first + table .count ≤ constructors .count ⌝ }
+    requires { ⌜ Passed (patternsIn (now desc) constructors table) input (table .count) best ⌝ }
+    ensures { λ r. ⌜ ChoiceOf (patternsIn (now (desc .entry)) constructors table) input (table .count) r ⌝ }
 {
     if best.found {
         if best.unsure {
-            if clears_all(desc, layout, table, input, best.at) {
+            if clears_all(desc, constructors, table, input, best.at) {
                 return Choice::Taken(best.at);
             }
             return Choice::Ambiguous;
@@ -178,15 +212,21 @@ fn settle(desc: &[u8], layout: Layout, table: Table, input: Input, best: Best) -
 }
 
 // The choice in a table, for the bytes of the code and a context.
-pub fn choose_in(desc: &[u8], layout: Layout, table: Table, code: &[u8], context: u32) -> Choice
-    requires { ⌜ SectionsInBounds (now desc) layout ⌝ }
-    requires { ⌜ table .first + table .count ≤ layout .constructors .count ⌝ }
-    ensures { λ r. ⌜ r ≡ choose (patternsOf (now (desc .entry)) layout table) (table .count) (now (code .entry)) context ⌝ }
+pub fn choose_in(
+    desc: &[u8],
+    constructors: Section,
+    table: Table,
+    code: &[u8],
+    context: u64,
+) -> Choice
+    requires { ⌜ inside (now desc) constructorBytes constructors ⌝ }
+    requires { ⌜ table .first + table .count ≤ constructors .count ⌝ }
+    ensures { λ r. ⌜ r ≡ choose (patternsIn (now (desc .entry)) constructors table) (table .count) (now (code .entry)) context ⌝ }
 {
     let input = patterns::input_of(code, context);
-    let scanned = scan(desc, layout, table, input);
+    let scanned = scan(desc, constructors, table, input);
     match scanned {
         Scanned::CutOff => Choice::Short,
-        Scanned::Complete(best) => settle(desc, layout, table, input, best),
+        Scanned::Complete(best) => settle(desc, constructors, table, input, best),
     }
 }

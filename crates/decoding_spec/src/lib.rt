@@ -2,21 +2,23 @@
 ghost use mathlib.Core.Path.{_≡_};
 ghost use Rattle.decoding_spec.specs.Refusals.{refusalNumber, refusalPlace, refusalTable, isShort};
 
-// Why there is no instruction: answers 2 to 8, each with its place, "no match" and "ambiguous" with their table too.
+// Why there is no instruction: answers 2 to 8, each with its place, "no match" and "ambiguous" with their table too. The fields are
+// narrow, so that a refusal stands beside the numbers of a done walk and not over them: they are copied one by one.
 pub enum Refusal {
-    Short(usize),
-    NoMatch { place: usize, table: u8 },
-    Ambiguous { place: usize, table: u8 },
-    Hole(usize),
-    TooFar(usize),
+    Short(u16),
+    NoMatch { place: u16, table: u8 },
+    Ambiguous { place: u16, table: u8 },
+    Hole(u16),
+    TooFar(u16),
     TooManyRows,
     RootLengthZero,
 }
 
-// What changes along a walk: the rows used so far, the context, and the constructor closed last, which at the end is the root's.
+// What changes along a walk: the rows used so far, the context, and the constructor closed last, which at the end is the root's. The
+// context is as wide as the others, so that all are copied whole.
 pub struct State {
     pub used: usize,
-    pub context: u32,
+    pub context: u64,
     pub taken: usize,
 }
 
@@ -40,11 +42,11 @@ pub fn refusal_place(refusal: Refusal) -> usize
     ensures { λ r. ⌜ r ≡ refusalPlace refusal ⌝ }
 {
     match refusal {
-        Refusal::Short(place) => place,
-        Refusal::NoMatch { place, table: _ } => place,
-        Refusal::Ambiguous { place, table: _ } => place,
-        Refusal::Hole(place) => place,
-        Refusal::TooFar(place) => place,
+        Refusal::Short(place) => place as usize,
+        Refusal::NoMatch { place, table: _ } => place as usize,
+        Refusal::Ambiguous { place, table: _ } => place as usize,
+        Refusal::Hole(place) => place as usize,
+        Refusal::TooFar(place) => place as usize,
         Refusal::TooManyRows => 0,
         Refusal::RootLengthZero => 0,
     }

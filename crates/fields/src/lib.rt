@@ -83,7 +83,7 @@ fn cut(whole: u64, low: u8, bits: u8) -> u64
 }
 
 // The field's bits as a number, from the code at its start or from the context.
-pub fn value(field: Field, code: &[u8], context: u32) -> u64
+pub fn value(field: Field, code: &[u8], context: u64) -> u64
     requires { ⌜ Readable field ⌝ }
     requires { ⌜ (field .source ≡ 0 → field .width ≤ length (now code)) ⌝ }
     ensures { λ r. ⌜ r ≡ valueOf field (now (code .entry)) context ⌝ }
@@ -92,7 +92,7 @@ pub fn value(field: Field, code: &[u8], context: u32) -> u64
     if field.source == 0 {
         return cut(token(field, code), field.low, bits);
     }
-    cut(context as u64, field.low, bits)
+    cut(context, field.low, bits)
 }
 
 // The number that a value of so many bits is shown as; the top bit is the sign.

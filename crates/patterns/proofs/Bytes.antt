@@ -117,7 +117,6 @@ pub record SmallInput (i : Input) : Type 0 where
   pub word : i .word < 2 ^ 64
   pub here : i .here < 2 ^ 64
   pub missing : i .missing < 2 ^ 64
-  pub context : i .context < 2 ^ 32
 
 -- bit by bit, these words are the first eight bytes of s, as far as they are there, and the context c
 pub record Holds (s : List ℕ) (c : ℕ) (i : Input) : Type 0 where
@@ -139,9 +138,9 @@ module _ (s : List ℕ) (c : ℕ) where
   unfolding inputOf
   few-input h = let e : min 8 (length s) ≡ length s = omega arith in rw e
 
-  pub input-holds : ((i : ℕ) → getD s i 0 < 256) → c < 2 ^ 32 → Holds s c (inputOf s c)
+  pub input-holds : ((i : ℕ) → getD s i 0 < 256) → Holds s c (inputOf s c)
   unfolding inputOf
-  input-holds bytes narrow =
+  input-holds bytes =
       let n = min 8 (length s) in
       record {
         bits = λ k l _. quad-bit s bytes k l;
@@ -151,7 +150,7 @@ module _ (s : List ℕ) (c : ℕ) where
         fits =
             (let m : 2 ^ (8 * n) ≤ 2 ^ 64 = pow-mono {i = 8 * n} {j = 64} (omega arith) in
             let p : 0 < 2 ^ (8 * n) = pow-pos (8 * n) in
-            record { word = quad-small s bytes 0; here = omega arith; missing = omega arith; context = narrow });
+            record { word = quad-small s bytes 0; here = omega arith; missing = omega arith });
       }
     where
       there : (k : ℕ) → k < 64 → ltb (k / 8) (min 8 (length s)) ≡ ltb (k / 8) (length s)

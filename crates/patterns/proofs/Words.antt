@@ -29,11 +29,11 @@ inside-is a b p q =
       inside-law 32 (a .contextmask) (a .contextvalue) (b .contextmask) (b .contextvalue) (p .contextmask) (p .contextvalue) (q .contextmask) (q .contextvalue),
     )
 
-meet-is : (n am av bm bv : ℕ) → am < 2 ^ n → av < 2 ^ n → bm < 2 ^ n → bv < 2 ^ n
+meet-is : (n am av bm bv : ℕ) → am < 2 ^ n → bm < 2 ^ n
     → eqb (bitAnd (bitXor av bv) (bitAnd am bm)) 0 ≡ meetBits n am av bm bv
 unfolding meetBits
-meet-is n am av bm bv p q r s =
-    agrees-law n av bv (bitAnd am bm) q s (and-lt n am bm p r)
+meet-is n am av bm bv p r =
+    agrees-law n av bv (bitAnd am bm) (and-lt n am bm p r)
     ∙ all-same n (λ k. not (isSet (bitAnd am bm) k) || eqb (bit av k) (bit bv k)) (λ k. not (isSet am k && isSet bm k) || eqb (bit av k) (bit bv k))
     (λ k h. rw (set-and am bm k))
 
@@ -44,8 +44,8 @@ pub overlap-is : (a b : Pattern) → Small a → Small b
 unfolding overlap
 overlap-is a b p q =
     rw (
-      meet-is 64 (a .mask) (a .value) (b .mask) (b .value) (p .mask) (p .value) (q .mask) (q .value),
-      meet-is 32 (a .contextmask) (a .contextvalue) (b .contextmask) (b .contextvalue) (p .contextmask) (p .contextvalue) (q .contextmask) (q .contextvalue),
+      meet-is 64 (a .mask) (a .value) (b .mask) (b .value) (p .mask) (q .mask),
+      meet-is 32 (a .contextmask) (a .contextvalue) (b .contextmask) (b .contextvalue) (p .contextmask) (q .contextmask),
     )
 
 pub weight-is : (p : Pattern) → Small p → ones (p .mask) + ones (p .contextmask) ≡ weight p
@@ -57,7 +57,7 @@ module _ (p : Pattern) (s : List ℕ) (c : ℕ) (i : Input) (h : Small p) (e : H
   bytes-agree : eqb (bitAnd (bitXor (i .word) (p .value)) (bitAnd (p .mask) (i .here))) 0
       ≡ allBelow 64 (λ k. not (isSet (p .mask) k && present s k) || eqb (byteBit s k) (bit (p .value) k))
   bytes-agree =
-      agrees-law 64 (i .word) (p .value) (bitAnd (p .mask) (i .here)) (e .fits .word) (h .value) (and-lt 64 (p .mask) (i .here) (h .mask) (e .fits .here))
+      agrees-law 64 (i .word) (p .value) (bitAnd (p .mask) (i .here)) (and-lt 64 (p .mask) (i .here) (h .mask) (e .fits .here))
       ∙ all-same 64 (λ k. not (isSet (bitAnd (p .mask) (i .here)) k) || eqb (bit (i .word) k) (bit (p .value) k))
       (λ k. not (isSet (p .mask) k && present s k) || eqb (byteBit s k) (bit (p .value) k))
       (λ k l. rw (set-and (p .mask) (i .here) k, e .here k l) (go k l (present s k) refl))
@@ -71,7 +71,7 @@ module _ (p : Pattern) (s : List ℕ) (c : ℕ) (i : Input) (h : Small p) (e : H
   pub agrees-is : wordsAgree p i ≡ agrees p s c
   unfolding agrees contextAgrees
   agrees-is =
-      rw (bytes-agree, agrees-law 32 (i .context) (p .contextvalue) (p .contextmask) (e .fits .context) (h .contextvalue) (h .contextmask), e .context)
+      rw (bytes-agree, agrees-law 32 (i .context) (p .contextvalue) (p .contextmask) (h .contextmask), e .context)
 
   -- no masked bit is missing
   pub whole-is : wordsWhole p i ≡ not (masksMissing p s)

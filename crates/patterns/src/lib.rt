@@ -7,7 +7,8 @@ ghost use Rattle.format.specs.Bytes.{u64At};
 ghost use Rattle.patterns.specs.Relations.{inside, overlap, overlapOf, equal, weight};
 ghost use Rattle.patterns.specs.Words.{inputOf, wordsAgree, wordsWhole};
 
-const ALL: u64 = 18446744073709551615;
+// A word with every bit set.
+pub const ALL: u64 = 18446744073709551615;
 
 // The first eight bytes of the code as a number, missing ones 0, the bits that are here and those that are missing, and the
 // context. Made once for a choice.
@@ -15,7 +16,7 @@ pub struct Input {
     pub word: u64,
     pub here: u64,
     pub missing: u64,
-    pub context: u32,
+    pub context: u64,
 }
 
 // The number of fewer than eight bytes.
@@ -32,7 +33,7 @@ fn padded(code: &[u8]) -> u64
     format::quad(&eight, 0)
 }
 
-pub fn input_of(code: &[u8], context: u32) -> Input
+pub fn input_of(code: &[u8], context: u64) -> Input
     ensures { λ r. ⌜ r ≡ inputOf (now (code .entry)) context ⌝ }
 {
     let n = code.len();
@@ -58,7 +59,7 @@ pub fn agrees(p: Pattern, i: Input) -> bool
     ensures { λ r. ⌜ r ≡ wordsAgree p i ⌝ }
 {
     ((i.word ^ p.value) & (p.mask & i.here) == 0)
-        & ((i.context ^ p.contextvalue) & p.contextmask == 0)
+        & ((i.context ^ (p.contextvalue as u64)) & (p.contextmask as u64) == 0)
 }
 
 // Whether all bytes are here in which a pattern masks a bit.

@@ -174,13 +174,13 @@ pub fn choose_at(
     fixed: &[usize; FIXED],
     table: u8,
     code: &[u8],
-    context: u32,
+    context: u64,
 ) -> Choice
     requires { ⌜ Fixed (now desc) (now fixed) × (table < tables) ⌝ }
     ensures { λ r. ⌜ r ≡ choiceIn (settingIn (now (desc .entry)) (now (fixed .entry)) .description) table (now (code .entry)) context ⌝ }
 {
     let range = range_of(desc, fixed, table);
-    let choice = choosing::choose_in(desc, layout_of(fixed), range, code, context);
+    let choice = choosing::choose_in(desc, layout_of(fixed).constructors, range, code, context);
     match choice {
         Choice::Short => Choice::Short,
         Choice::NoMatch => Choice::NoMatch,

@@ -116,7 +116,7 @@ fn put_number(
     signed: bool,
     index: u8,
     code: &[u8],
-    context: u32,
+    context: u64,
     place: usize,
     rows: &mut [i64],
     used: usize,
@@ -164,7 +164,7 @@ fn show(
             let name = (field.first as usize) + (value as usize);
             let found = setting::name(desc, fixed, name);
             if found.length == 0 {
-                return Walked::Refused(Refusal::Hole(place));
+                return Walked::Refused(Refusal::Hole(place as u16));
             }
             put_row(rows, used, 2, wide(index), place, name as i64, 1);
             Walked::Done {
@@ -194,10 +194,10 @@ fn field_from(
     let field = setting::field(desc, fixed, wide(index));
     let end = place + width_of(field);
     if (LONGEST < place) | (LONGEST < end) {
-        return Walked::Refused(Refusal::TooFar(place));
+        return Walked::Refused(Refusal::TooFar(place as u16));
     }
     if fixed[setting::TOTAL] < end {
-        return Walked::Refused(Refusal::Short(place));
+        return Walked::Refused(Refusal::Short(place as u16));
     }
     show(desc, fixed, field, index, code, place, rows, state)
 }
@@ -222,10 +222,10 @@ fn close(
             let length = larger(minimum, far);
             let end = at + length;
             if LONGEST < end {
-                return Walked::Refused(Refusal::TooFar(at));
+                return Walked::Refused(Refusal::TooFar(at as u16));
             }
             if fixed[setting::TOTAL] < end {
-                return Walked::Refused(Refusal::Short(at));
+                return Walked::Refused(Refusal::Short(at as u16));
             }
             let last = length as i64;
             let size = state.used - used;
@@ -360,14 +360,20 @@ fn walk_table(
         return Walked::Refused(Refusal::TooManyRows);
     }
     if LONGEST < at {
-        return Walked::Refused(Refusal::TooFar(at));
+        return Walked::Refused(Refusal::TooFar(at as u16));
     }
     let choice = setting::choose_at(desc, fixed, table, code, state.context);
     match choice {
-        Choice::Short => Walked::Refused(Refusal::Short(at)),
-        Choice::NoMatch => Walked::Refused(Refusal::NoMatch { place: at, table }),
+        Choice::Short => Walked::Refused(Refusal::Short(at as u16)),
+        Choice::NoMatch => Walked::Refused(Refusal::NoMatch {
+            place: at as u16,
+            table,
+        }),
         Choice::Taken(number) => walk_constructor(desc, fixed, number, code, at, rows, state),
-        Choice::Ambiguous => Walked::Refused(Refusal::Ambiguous { place: at, table }),
+        Choice::Ambiguous => Walked::Refused(Refusal::Ambiguous {
+            place: at as u16,
+            table,
+        }),
     }
 }
 
@@ -385,7 +391,7 @@ fn walk_root(
     let root = setting::root(desc, fixed);
     let start = State {
         used: 0,
-        context,
+        context: context as u64,
         taken: 0,
     };
     let walked = walk_table(desc, fixed, root, code, 0, rows, start);

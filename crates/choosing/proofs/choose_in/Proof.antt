@@ -1,6 +1,5 @@
-use Rattle.choosing.proofs.Settling.{rows-small, cut-short, settled}
-use Rattle.choosing_spec.specs.Table.{patternFrom}
-use Rattle.format.specs.Description.{description}
+use Rattle.choosing.proofs.Settling.{patterns-small, cut-short, settled}
+use Rattle.choosing.specs.Patterns.{patternsIn}
 use native.Mathlib.Omega.{arith}
 use borrow.Author.Needs.{needs}
 use Rattle.choosing.proofs.choose_in.Statement.{statement}
@@ -33,10 +32,10 @@ returns : tie.Need-returns
 returns c =
     let earlier = c .before .before .before in
     let s = earlier .before .before .before in
-    cut-short (patternFrom (description (s .args .desc .now) (s .args .layout)) (s .args .table .first)) (s .args .table .count) (s .args .code .now) (s .args .context)
+    cut-short (patternsIn (s .args .desc .now) (s .args .constructors) (s .args .table)) (s .args .table .count) (s .args .code .now) (s .args .context)
     (earlier .input-of .result)
-    (rows-small (s .args .desc .now) (s .args .layout) (λ i. omega (arith, earlier .before .before .shared-slice-known .given i)) (s .args .table .first))
-    (λ i. omega (arith, earlier .before .shared-slice-known2 .given i)) (search needs) (earlier .input-of .ensures)
+    (patterns-small (s .args .desc .now) (λ i. omega (arith, earlier .before .before .shared-slice-known .given i)) (s .args .constructors) (s .args .table .first))
+    (λ i. omega (arith, earlier .before .shared-slice-known2 .given i)) (earlier .input-of .ensures)
     (rw (c .enum-told .given .1) at (c .before .before .scan .ensures))
 
 returns-2 : tie.Need-returns-2
@@ -45,10 +44,10 @@ returns-2 c =
     let earliest = earlier .before .before in
     let s = earliest .before .before in
     let t = rw (c .before .before .scanned .given .1) at (earlier .scan .ensures) in
-    settled (patternFrom (description (s .args .desc .now) (s .args .layout)) (s .args .table .first)) (s .args .table .count) (s .args .code .now) (s .args .context)
+    settled (patternsIn (s .args .desc .now) (s .args .constructors) (s .args .table)) (s .args .table .count) (s .args .code .now) (s .args .context)
     (earlier .before .input-of .result)
-    (rows-small (s .args .desc .now) (s .args .layout) (λ i. omega (arith, earliest .before .shared-slice-known .given i)) (s .args .table .first))
-    (λ i. omega (arith, earliest .shared-slice-known2 .given i)) (search needs)
+    (patterns-small (s .args .desc .now) (λ i. omega (arith, earliest .before .shared-slice-known .given i)) (s .args .constructors) (s .args .table .first))
+    (λ i. omega (arith, earliest .shared-slice-known2 .given i))
     (earlier .before .input-of .ensures) (t .0) (c .settle .result) (c .settle .ensures)
 
 pub choose-in-spec : {M : Type 1} → statement M

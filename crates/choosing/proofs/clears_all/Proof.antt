@@ -1,8 +1,7 @@
 use Rattle.choosing.proofs.Keeping.{clears-is}
 use Rattle.choosing.specs.Scan.{clears, wordMatch}
-use Rattle.choosing_spec.specs.Table.{patternFrom}
+use Rattle.choosing.specs.Patterns.{patternsIn}
 use Rattle.format.specs.declared.Pattern.{Pattern}
-use Rattle.format.specs.Description.{description}
 use Rattle.lists.proofs.Below.{all-none, all-more, all-stop}
 use Rattle.lists.specs.Below.{allBelow}
 use borrow.Author.Needs.{needs}
@@ -15,22 +14,22 @@ use Rattle.choosing.proofs.clears_all.Statement.{statement}
 use Rattle.choosing.proofs.clears_all.Tie as tie
 use Rattle.choosing.proofs.clears_all.Reads as reads
 use Rattle.choosing.proofs.clears_all.Lts as lts
-use Rattle.choosing.proofs.row.Reads as row-reads
+use Rattle.choosing.proofs.pattern_in.Reads as pattern-in-reads
 use Rattle.patterns.proofs.agrees.Reads as agrees-reads
 use Rattle.patterns.proofs.lies_inside.Reads as lies-inside-reads
 use Rattle.patterns.proofs.whole.Reads as whole-reads
 
 abbrev Inv-loop : tie.InvT-loop
-Inv-loop desc layout table input t q j₀ j =
+Inv-loop desc constructors table input t q j₀ j =
     (j ≤ table .count)
-    × (allBelow j (clears (patternFrom (description desc layout) (table .first)) (wordMatch (patternFrom (description desc layout) (table .first)) input) t) ≡ true)
+    × (allBelow j (clears (patternsIn desc constructors table) (wordMatch (patternsIn desc constructors table) input) t) ≡ true)
 
 abbrev μ-loop : tie.MeasureT-loop
-μ-loop desc layout table input t q j₀ j = table .count - j
+μ-loop desc constructors table input t q j₀ j = table .count - j
 
 -- the table's patterns
 abbrev rows : tie.Start Inv-loop μ-loop → ℕ → Pattern
-rows s = patternFrom (description (s .args .desc .now) (s .args .layout)) (s .args .table .first)
+rows s = patternsIn (s .args .desc .now) (s .args .constructors) (s .args .table)
 
 -- the test is the definition's, at record j
 clear-is : (c : tie.After-lies-inside2 Inv-loop μ-loop)
@@ -39,18 +38,18 @@ clear-is : (c : tie.After-lies-inside2 Inv-loop μ-loop)
 clear-is c =
     let earlier = c .before .before .before .before .before .before .before in
     let earliest = earlier .before .before .before in
-    clears-is (rows earliest) (earliest .args .input) (earlier .loop .j) (c .before .before .before .before .row2 .result) (c .before .before .before .before .row2 .ensures) (earliest .args .t)
-    (earlier .before .row .result) (c .before .before .before .agrees .result) (c .before .before .whole .result) (c .before .lies-inside .result) (c .lies-inside2 .result)
-    (earlier .before .row .ensures) (c .before .before .before .agrees .ensures) (c .before .before .whole .ensures) (c .before .lies-inside .ensures) (c .lies-inside2 .ensures)
+    clears-is (rows earliest) (earliest .args .input) (earlier .loop .j) (c .before .before .before .before .pattern-in2 .result) (c .before .before .before .before .pattern-in2 .ensures) (earliest .args .t)
+    (earlier .before .pattern-in .result) (c .before .before .before .agrees .result) (c .before .before .whole .result) (c .before .lies-inside .result) (c .lies-inside2 .result)
+    (earlier .before .pattern-in .ensures) (c .before .before .before .agrees .ensures) (c .before .before .whole .ensures) (c .before .lies-inside .ensures) (c .lies-inside2 .ensures)
 
-row-requires : tie.Need-row-requires Inv-loop μ-loop
-row-requires c κs = (c .before .pre .0, omega arith)
+pattern-in-requires : tie.Need-pattern-in-requires Inv-loop μ-loop
+pattern-in-requires c κs = (c .before .pre .0, omega arith)
 
 loop-holds : tie.Need-loop-holds Inv-loop μ-loop
 loop-holds c = (omega arith, all-none _)
 
-row-requires-2 : tie.Need-row-requires-2 Inv-loop μ-loop
-row-requires-2 c κs = (c .before .before .before .before .before .pre .0, omega arith)
+pattern-in-requires-2 : tie.Need-pattern-in-requires-2 Inv-loop μ-loop
+pattern-in-requires-2 c κs = (c .before .before .before .before .before .pre .0, omega arith)
 
 agrees-requires : tie.Need-agrees-requires Inv-loop μ-loop
 agrees-requires c κs = search needs
@@ -92,9 +91,9 @@ clears-all-spec =
     (tie.spec
     Inv-loop
     μ-loop
-    row-requires
+    pattern-in-requires
     loop-holds
-    row-requires-2
+    pattern-in-requires-2
     agrees-requires
     whole-requires
     lies-inside-requires

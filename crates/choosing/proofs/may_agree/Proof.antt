@@ -5,15 +5,15 @@ use Rattle.choosing.proofs.may_agree.Statement.{statement}
 use Rattle.choosing.proofs.may_agree.Tie as tie
 use Rattle.choosing.proofs.may_agree.Reads as reads
 use Rattle.choosing.proofs.may_agree.Lts as lts
-use Rattle.choosing.proofs.row.Reads as row-reads
+use Rattle.choosing.proofs.pattern_in.Reads as pattern-in-reads
 
-row-requires : tie.Need-row-requires
-row-requires c κs = search needs
+pattern-in-requires : tie.Need-pattern-in-requires
+pattern-in-requires c κs = search needs
 
 returns : tie.Need-returns
 returns c =
-    let earlier = c .before .before .before .before in
-    λ h. rw (← earlier .row .ensures) (differing (earlier .row .result) (earlier .before .before .args .input) h)
+    let earlier = c .before .before .before in
+    λ h. rw (← earlier .pattern-in .ensures) (differing (earlier .pattern-in .result) (earlier .before .before .args .input) (search needs) (earlier .before .before .pre .1 .1 .1) h)
 
 pub may-agree-spec : {M : Type 1} → statement M
-may-agree-spec = tie.close (tie.spec row-requires returns)
+may-agree-spec = tie.close (tie.spec pattern-in-requires returns)

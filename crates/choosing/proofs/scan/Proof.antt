@@ -2,8 +2,7 @@ use Rattle.format.specs.declared.Pattern.{Pattern}
 use Rattle.choosing.proofs.Keeping.{is-match, is-short, is-none}
 use Rattle.choosing.proofs.Keeping.{kept-none, kept-skip, kept-withMatch, none-more, skipped}
 use Rattle.choosing.specs.Scan.{wordShort, wordMatch, ScanState}
-use Rattle.choosing_spec.specs.Table.{patternFrom}
-use Rattle.format.specs.Description.{description}
+use Rattle.choosing.specs.Patterns.{patternsIn}
 use Rattle.lists.proofs.Below.{any-none, any-at}
 use Rattle.lists.specs.Below.{anyBelow}
 use borrow.Author.Needs.{needs}
@@ -15,24 +14,24 @@ use Rattle.choosing.proofs.scan.Statement.{statement}
 use Rattle.choosing.proofs.scan.Tie as tie
 use Rattle.choosing.proofs.scan.Reads as reads
 use Rattle.choosing.proofs.scan.Lts as lts
-use Rattle.choosing.proofs.row.Reads as row-reads
+use Rattle.choosing.proofs.pattern_in.Reads as pattern-in-reads
 use Rattle.choosing.proofs.skip.Reads as skip-reads
 use Rattle.choosing.proofs.with_match.Reads as with-match-reads
 use Rattle.patterns.proofs.agrees.Reads as agrees-reads
 use Rattle.patterns.proofs.whole.Reads as whole-reads
 
 abbrev Inv-loop : tie.InvT-loop
-Inv-loop desc layout table input best₀ next₀ best next =
+Inv-loop desc constructors table input best₀ next₀ best next =
     (next ≤ table .count)
-    × (anyBelow next (wordShort (patternFrom (description desc layout) (table .first)) input) ≡ false)
-    × ScanState (patternFrom (description desc layout) (table .first)) (wordMatch (patternFrom (description desc layout) (table .first)) input) (table .count) next best
+    × (anyBelow next (wordShort (patternsIn desc constructors table) input) ≡ false)
+    × ScanState (patternsIn desc constructors table) (wordMatch (patternsIn desc constructors table) input) (table .count) next best
 
 abbrev μ-loop : tie.MeasureT-loop
-μ-loop desc layout table input best₀ next₀ best next = table .count - next
+μ-loop desc constructors table input best₀ next₀ best next = table .count - next
 
 -- the table's patterns
 abbrev rows : tie.Start Inv-loop μ-loop → ℕ → Pattern
-rows s = patternFrom (description (s .args .desc .now) (s .args .layout)) (s .args .table .first)
+rows s = patternsIn (s .args .desc .now) (s .args .constructors) (s .args .table)
 
 -- what is known behind the records passed over
 behind : (c : tie.After-skip Inv-loop μ-loop)
@@ -57,8 +56,8 @@ returns c = rw (c .if2 .taken) at (behind (c .before .before))
 add-next : tie.Need-add-next Inv-loop μ-loop
 add-next c = omega (arith, c .before .before .skip .ensures .within)
 
-row-requires : tie.Need-row-requires Inv-loop μ-loop
-row-requires c κs = (c .before .before .before .before .before .before .before .pre .0, omega (arith, c .before .before .skip .ensures .within))
+pattern-in-requires : tie.Need-pattern-in-requires Inv-loop μ-loop
+pattern-in-requires c κs = (c .before .before .before .before .before .before .before .pre .0, omega (arith, c .before .before .skip .ensures .within))
 
 agrees-requires : tie.Need-agrees-requires Inv-loop μ-loop
 agrees-requires c κs = search needs
@@ -70,7 +69,7 @@ with-match-requires : tie.Need-with-match-requires Inv-loop μ-loop
 with-match-requires c κs =
     let earlier = c .before .before .before .before .before .before .before in
     let known = behind earlier .1 in
-    (earlier .before .before .before .before .before .pre .0, (λ f. omega (arith, known .best f .0, earlier .skip .ensures .within), c .before .before .before .before .row .ensures))
+    (earlier .before .before .before .before .before .pre .0, (λ f. omega (arith, known .best f .0, earlier .skip .ensures .within), c .before .before .before .before .pattern-in .ensures))
 
 loop-less : tie.Need-loop-less Inv-loop μ-loop
 loop-less c =
@@ -83,7 +82,7 @@ loop-again c =
     let earliest = earlier .before .before .before in
     let j = earlier .skip .result in
     let known = behind earlier in
-    let t = is-match (rows (earliest .before .before)) (earliest .before .before .args .input) j (c .before .before .before .before .before .row .result) (c .before .before .before .before .before .row .ensures) (sym (c .before .before .before .before .agrees .ensures) ∙ c .before .before .before .if3 .taken) (sym (c .before .before .whole .ensures) ∙ c .before .if4 .taken) in (
+    let t = is-match (rows (earliest .before .before)) (earliest .before .before .args .input) j (c .before .before .before .before .before .pattern-in .result) (c .before .before .before .before .before .pattern-in .ensures) (sym (c .before .before .before .before .agrees .ensures) ∙ c .before .before .before .if3 .taken) (sym (c .before .before .whole .ensures) ∙ c .before .if4 .taken) in (
       omega (arith, earlier .skip .ensures .within),
       none-more _ j (known .0) (t .0),
       rw (c .with-match .ensures) (kept-withMatch _ _ _ j (earliest .loop .best) (t .1) (known .1) (omega (arith, earlier .skip .ensures .within))),
@@ -95,7 +94,7 @@ returns-2 c =
     let earliest = earlier .before .before .before .before .before in
     let j = earlier .skip .result in
     any-at _ _ j (omega (arith, earlier .skip .ensures .within))
-    (is-short (rows earliest) (earliest .args .input) j (c .before .before .before .before .row .result) (c .before .before .before .before .row .ensures) (sym (c .before .before .before .agrees .ensures) ∙ c .before .before .if3 .taken) (sym (c .before .whole .ensures) ∙ c .if4 .left))
+    (is-short (rows earliest) (earliest .args .input) j (c .before .before .before .before .pattern-in .result) (c .before .before .before .before .pattern-in .ensures) (sym (c .before .before .before .agrees .ensures) ∙ c .before .before .if3 .taken) (sym (c .before .whole .ensures) ∙ c .if4 .left))
 
 loop-less-2 : tie.Need-loop-less-2 Inv-loop μ-loop
 loop-less-2 c =
@@ -108,7 +107,7 @@ loop-again-2 c =
     let earliest = earlier .before .before .before in
     let j = earlier .skip .result in
     let known = behind earlier in
-    let t = is-none (rows (earliest .before .before)) (earliest .before .before .args .input) j (c .before .before .row .result) (c .before .before .row .ensures) (sym (c .before .agrees .ensures) ∙ c .if3 .left) in (
+    let t = is-none (rows (earliest .before .before)) (earliest .before .before .args .input) j (c .before .before .pattern-in .result) (c .before .before .pattern-in .ensures) (sym (c .before .agrees .ensures) ∙ c .if3 .left) in (
       omega (arith, earlier .skip .ensures .within),
       none-more _ j (known .0) (t .0),
       kept-skip _ _ _ j (earliest .loop .best) (t .1) (known .1),
@@ -130,7 +129,7 @@ scan-spec =
     skip-requires
     returns
     add-next
-    row-requires
+    pattern-in-requires
     agrees-requires
     whole-requires
     with-match-requires

@@ -1,6 +1,7 @@
 use Rattle.table_query.proofs.Answer.{answer}
 use Rattle.table_query.specs.Asking.{askIn}
 use Rattle.choosing_theorems.proofs.Taken.{taken-facts}
+use Rattle.choosing.proofs.Settling.{described}
 use Rattle.tables.proofs.Range.{absent, there, in-section}
 use Rattle.format.proofs.Lists.{constructors-length}
 use Rattle.format.proofs.Formation.{obeyed}
@@ -28,7 +29,7 @@ choose-in-requires : tie.Need-choose-in-requires
 choose-in-requires c κs =
     let earlier = c .before .before in
     let s = earlier .before .before .before in
-    (s .pre .room, rw constructors-length at (in-section _ (obeyed _ _ (s .pre)) _ _ _ (earlier .table-of .ensures .0) (earlier .table-of .ensures .1)))
+    (s .pre .room .constructors, rw constructors-length at (in-section _ (obeyed _ _ (s .pre)) _ _ _ (earlier .table-of .ensures .0) (earlier .table-of .ensures .1)))
 
 enum-told : tie.Need-enum-told
 enum-told c = search needs
@@ -42,8 +43,9 @@ enum-known-choice c = search needs
 taken-requires : tie.Need-taken-requires
 taken-requires c κs =
     let earlier = c .before .before .before .before .before .before in
-    let s = earlier .before .before .before in
-    let f = taken-facts _ _ _ _ _ (sym (c .before .before .before .choose-in .ensures) ∙ c .before .choice .given .1) in
+    let start = earlier .before .before .before in
+    let s = start in
+    let f = taken-facts _ _ _ _ _ (described (start .args .desc .now) (start .args .layout) _ _ _ _ _ (sym (c .before .before .before .choose-in .ensures) ∙ c .before .choice .given .1)) in
     let n = rw constructors-length at (in-section _ (obeyed _ _ (s .pre)) _ _ _ (earlier .table-of .ensures .0) (earlier .table-of .ensures .1)) in
     (s .pre .room, omega (arith, f .within, n))
 
@@ -53,32 +55,36 @@ enum-told-3 c = search needs
 returns-2 : tie.Need-returns-2
 returns-2 c =
     let earlier = c .before .before .before .before .before in
+    let start = earlier .before .before .before in
     answer _ _ _ _ _ _ (earlier .table-of .ensures .0) (earlier .table-of .ensures .1)
     (there _ (obeyed _ _ (earlier .before .before .before .pre)) _ _ _ (earlier .table-of .ensures .0) (earlier .table-of .ensures .1) (c .before .before .before .if1 .left)) _
-    (sym (c .before .before .choose-in .ensures) ∙ c .enum-told .given .1)
+    (described (start .args .desc .now) (start .args .layout) _ _ _ _ _ (sym (c .before .before .choose-in .ensures) ∙ c .enum-told .given .1))
 
 returns-3 : tie.Need-returns-3
 returns-3 c =
     let earlier = c .before .before .before .before .before in
+    let start = earlier .before .before .before in
     answer _ _ _ _ _ _ (earlier .table-of .ensures .0) (earlier .table-of .ensures .1)
     (there _ (obeyed _ _ (earlier .before .before .before .pre)) _ _ _ (earlier .table-of .ensures .0) (earlier .table-of .ensures .1) (c .before .before .before .if1 .left)) _
-    (sym (c .before .before .choose-in .ensures) ∙ c .enum-told2 .given .1)
+    (described (start .args .desc .now) (start .args .layout) _ _ _ _ _ (sym (c .before .before .choose-in .ensures) ∙ c .enum-told2 .given .1))
 
 returns-4 : tie.Need-returns-4
 returns-4 c =
     let earlier = c .before .before .before .before .before .before .before in
+    let start = earlier .before .before .before in
     c .taken .ensures
     ∙ (rw (earlier .table-of .ensures .0) refl
     ∙ answer _ _ _ _ _ _ (earlier .table-of .ensures .0) (earlier .table-of .ensures .1)
     (there _ (obeyed _ _ (earlier .before .before .before .pre)) _ _ _ (earlier .table-of .ensures .0) (earlier .table-of .ensures .1) (c .before .before .before .before .before .if1 .left)) _
-    (sym (c .before .before .before .before .choose-in .ensures) ∙ c .before .before .choice .given .1))
+    (described (start .args .desc .now) (start .args .layout) _ _ _ _ _ (sym (c .before .before .before .before .choose-in .ensures) ∙ c .before .before .choice .given .1)))
 
 returns-5 : tie.Need-returns-5
 returns-5 c =
     let earlier = c .before .before .before .before .before in
+    let start = earlier .before .before .before in
     answer _ _ _ _ _ _ (earlier .table-of .ensures .0) (earlier .table-of .ensures .1)
     (there _ (obeyed _ _ (earlier .before .before .before .pre)) _ _ _ (earlier .table-of .ensures .0) (earlier .table-of .ensures .1) (c .before .before .before .if1 .left)) _
-    (sym (c .before .before .choose-in .ensures) ∙ c .enum-told3 .given .1)
+    (described (start .args .desc .now) (start .args .layout) _ _ _ _ _ (sym (c .before .before .choose-in .ensures) ∙ c .enum-told3 .given .1))
 
 pub ask-in-spec : {M : Type 1} → statement M
 ask-in-spec =

@@ -399,6 +399,18 @@ walk-table-returns-6 t c =
     let earlier = c .before .before in
     table-refused _ _ _ _ _ _ _ (earlier .before .before .if1 .left) (earlier .before .if2 .left) _ _ (sym (c .enum-told3 .given .1) ∙ earlier .choose-at .ensures) (λ w. refl)
 
+walk-table-cast-t12 : (t : ℕ) → walk-table-lts.Need-cast-t12 (walk-table-claims t) (walk-table-at t) walk-table.Post
+walk-table-cast-t12 t c = omega (arith, c .before .before .before .before .before .pre .1 .close)
+
+walk-table-cast-t15 : (t : ℕ) → walk-table-lts.Need-cast-t15 (walk-table-claims t) (walk-table-at t) walk-table.Post
+walk-table-cast-t15 t c = omega (arith, c .before .before .before .before .before .before .before .before .pre .1 .close)
+
+walk-table-cast-t17 : (t : ℕ) → walk-table-lts.Need-cast-t17 (walk-table-claims t) (walk-table-at t) walk-table.Post
+walk-table-cast-t17 t c = omega (arith, c .before .before .before .before .before .before .before .before .pre .1 .close)
+
+walk-table-cast-t21 : (t : ℕ) → walk-table-lts.Need-cast-t21 (walk-table-claims t) (walk-table-at t) walk-table.Post
+walk-table-cast-t21 t c = omega (arith, c .before .before .before .before .before .before .before .before .pre .1 .close)
+
 pub +walk-constructor+walk-operand+walk-operands+walk-table-spec : {M : Type 1} → statement M
 +walk-constructor+walk-operand+walk-operands+walk-table-spec =
     close
@@ -494,13 +506,17 @@ pub +walk-constructor+walk-operand+walk-operands+walk-table-spec : {M : Type 1} 
     ) (walk-table-at t)
     walk-table.Post
     (walk-table-returns t)
+    (walk-table-cast-t12 t)
     (walk-table-returns-2 t)
     (walk-table-choose-at-requires t)
     (walk-table-enum-told t)
+    (walk-table-cast-t15 t)
     (walk-table-enum-told-2 t)
+    (walk-table-cast-t17 t)
     (walk-table-enum-known-choice t)
     (walk-table-walk-constructor-requires t)
     (walk-table-enum-told-3 t)
+    (walk-table-cast-t21 t)
     (walk-table-returns-3 t)
     (walk-table-returns-4 t)
     (walk-table-same-length t)

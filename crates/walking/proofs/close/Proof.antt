@@ -68,6 +68,12 @@ returns-4 c =
     closes-done _ _ _ _ _ _ _ _ _ _ _ (earlier .before .before .before .walked2 .given .1) (earlier .before .larger .ensures) (earlier .if1 .left) (c .before .before .before .before .if2 .left)
     (rw (toZ-pos w64 {n = earlier .before .larger .result} (omega arith)) at (c .before .put-row .ensures))
 
+cast-t18 : tie.Need-cast-t18
+cast-t18 c = omega (arith, c .before .before .before .before .before .pre .0 .2)
+
+cast-t23 : tie.Need-cast-t23
+cast-t23 c = omega (arith, c .before .before .before .before .before .before .before .pre .0 .2)
+
 pub close-spec : {M : Type 1} → statement M
 close-spec =
     tie.close
@@ -76,8 +82,10 @@ close-spec =
     enum-known-walked-2
     larger-requires
     add-end
+    cast-t18
     returns
     element-copy-out-if2
+    cast-t23
     returns-2
     cast-last
     sub-size

@@ -92,6 +92,12 @@ returns-4 c =
     rw (field-shown (settingIn (start .args .desc .now) (start .args .fixed .now)) _ _ (start .args .code .now) (start .args .place) (start .args .state) (earlier .before .before .before .before .if1 .left) _ (end-is (earlier .before)) (earlier .if2 .left) (omega (arith, total-in (earliest .args .desc .now) (earliest .args .fixed .now), c .before .before .before .if3 .left)))
     (rw (found (earlier .before .before)) at h)
 
+cast-t15 : tie.Need-cast-t15
+cast-t15 c = omega (arith, c .before .before .before .before .before .before .before .before .pre .close)
+
+cast-t19 : tie.Need-cast-t19
+cast-t19 c = omega (arith, c .before .before .before .before .before .before .before .before .before .before .pre .close)
+
 pub field-from-spec : {M : Type 1} → statement M
 field-from-spec =
     tie.close
@@ -101,8 +107,10 @@ field-from-spec =
     field-requires
     width-of-requires
     add-end
+    cast-t15
     returns-2
     element-copy-out-if3
+    cast-t19
     returns-3
     show-requires
     same-length

@@ -106,6 +106,9 @@ returns-3 c =
     (rw (earlier .before .value .ensures) at (rw (c .before .before .before .before .before .before .before .name .ensures) at (c .before .before .before .before .before .if1 .left)))
     (rw (earlier .before .value .ensures) at (rw (toZ-pos w64 {n = name} (omega (arith, earlier .struct-known .given .1 .1 .1 .1 .1 .1 .0, earlier .before .value .ensures, small)), c .before .before .before .wide .ensures .0) at (c .before .before .put-row .ensures))))
 
+cast-t25 : tie.Need-cast-t25
+cast-t25 c = omega (arith, c .before .before .before .before .before .before .before .before .before .before .before .pre .1 .near)
+
 pub show-spec : {M : Type 1} → statement M
 show-spec =
     tie.close
@@ -120,6 +123,7 @@ show-spec =
     cast-name
     add-name
     name-requires
+    cast-t25
     returns
     wide-requires
     cast-put-row
