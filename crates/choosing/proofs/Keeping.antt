@@ -2,7 +2,7 @@
 use Prim.Native.Nat.{ℕ, zero, suc, _+_, _-_, _<_, _≤_, _^_}
 use mathlib.Core.Bool.{Bool, true, false, cond, not, _&&_, _||_, false≢true}
 use mathlib.Core.Path.{_≡_, refl, sym, ap, _∙_}
-use native.Mathlib.Decide.{ℕ-discrete}
+use native.Mathlib.Decide.{decLt, ℕ-discrete}
 use native.Mathlib.Nat.{mod-eq-of-lt}
 use native.Mathlib.Omega.{arith}
 use borrow.Author.Tests.{eq-eqb, ne-eqb, not-false}
@@ -227,17 +227,30 @@ module _ (at : ℕ → Pattern) (i : Input) (n from : ℕ) where
   pub skip-none : from ≤ n → Skips at i n from from
   skip-none h = record { since = omega arith; within = h; none = λ j l h. absurd (omega arith) }
 
-  pub skip-more : (j : ℕ) → j < n → wordsAgree (at j) i ≡ false → Skips at i n from j → Skips at i n from (j + 1)
-  skip-more j h a k =
+  pub skip-next : (j k : ℕ) → k ≡ j + 1 → j < n → wordsAgree (at j) i ≡ false → Skips at i n from j → Skips at i n from k
+  skip-next j k e h a p =
       record {
-        since = omega (arith, k .since);
+        since = omega (arith, p .since);
         within = omega arith;
-        none = λ x l h. go x l h (ℕ-discrete x j);
+        none = λ x l m. go x l (omega arith) (ℕ-discrete x j);
       }
     where
       go : (x : ℕ) → from ≤ x → x < j + 1 → Dec (x ≡ j) → wordsAgree (at x) i ≡ false
-      go x l h (yes q) = rw q a
-      go x l h (no q) = k .none x l (omega (arith, q))
+      go x l m (yes q) = rw q a
+      go x l m (no q) = p .none x l (omega (arith, q))
+
+  -- the first some, and those from there on
+  pub skip-then : (j r : ℕ) → Skips at i n from j → Skips at i n j r → Skips at i n from r
+  skip-then j r p q =
+      record {
+        since = omega (arith, p .since, q .since);
+        within = q .within;
+        none = λ x l h. go x l h (decLt x j);
+      }
+    where
+      go : (x : ℕ) → from ≤ x → x < r → Dec (x < j) → wordsAgree (at x) i ≡ false
+      go x l h (yes b) = p .none x l b
+      go x l h (no b) = q .none x (omega (arith, b)) h
 
   -- change nothing
   module _ (r : ℕ) (b : Best) (k : Skips at i n from r) where

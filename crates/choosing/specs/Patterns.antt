@@ -15,6 +15,10 @@ use Rattle.choosing_spec.specs.Table.{patternFrom}
 abbrev pub patternsOf : List ℕ → Layout → Table → ℕ → Pattern
 patternsOf b l table = patternFrom (description b l) (table .first)
 
+-- a section by its numbers
+abbrev pub sectionAs : ℕ → ℕ → Section
+sectionAs start records = record { start = start; count = records }
+
 -- the pattern of record j from a first constructor on, in bytes whose constructors stand in this section
 unfoldable pub patternIn : List ℕ → Section → ℕ → ℕ → Pattern
 patternIn b s first j = getD (recordsOf constructorAt constructorBytes b s) (first + j) noConstructor .pattern

@@ -14,7 +14,7 @@ ghost use Rattle.format.specs.Description.{description};
 ghost use Rattle.patterns.specs.Words.{wordsAgree};
 ghost use Rattle.choosing_spec.specs.Choosing.{choose};
 ghost use Rattle.choosing_spec.specs.Table.{patternFrom};
-ghost use Rattle.choosing.specs.Patterns.{patternIn, patternsIn};
+ghost use Rattle.choosing.specs.Patterns.{sectionAs, patternIn, patternsIn};
 ghost use Rattle.choosing.specs.Scan.{withMatch, clearsAll, Skips, ScanResult, Passed, ChoiceOf};
 
 // What a pass has found so far: whether a record matches, the one that lies inside the others, and whether that is in doubt.
@@ -97,28 +97,55 @@ fn may_agree(desc: &[u8], constructors: Section, table: Table, input: Input, j: 
     (input.word ^ p.value) & p.mask == 0
 }
 
-// Past the records from one on that do not agree, four at a time, where all bytes are here.
-fn skip_fours(desc: &[u8], constructors: Section, table: Table, input: Input, from: usize) -> usize
+// Past those of four records from one on that do not agree, where all bytes are here.
+fn skip_four(desc: &[u8], constructors: Section, table: Table, input: Input, from: usize) -> usize
+    requires { ⌜ inside (now desc) constructorBytes constructors ⌝ }
+    requires { ⌜ table .first + table .count ≤ constructors .count ⌝ }
+    requires { ⌜ (from + 4 ≤ table .count) × (input .here ≡ 2 ^ 64 - 1) ⌝ }
+    ensures { λ r. ⌜ Skips (patternsIn (now (desc .entry)) constructors table) input (table .count) from r × (r ≤ from + 4) ⌝ }
+{
+    if may_agree(desc, constructors, table, input, from) {
+        return from;
+    }
+    if may_agree(desc, constructors, table, input, from + 1) {
+        return from + 1;
+    }
+    if may_agree(desc, constructors, table, input, from + 2) {
+        return from + 2;
+    }
+    if may_agree(desc, constructors, table, input, from + 3) {
+        return from + 3;
+    }
+    from + 4
+}
+
+fn skip_eight(desc: &[u8], constructors: Section, table: Table, input: Input, from: usize) -> usize
+    requires { ⌜ inside (now desc) constructorBytes constructors ⌝ }
+    requires { ⌜ table .first + table .count ≤ constructors .count ⌝ }
+    requires { ⌜ (from + 8 ≤ table .count) × (input .here ≡ 2 ^ 64 - 1) ⌝ }
+    ensures { λ r. ⌜ Skips (patternsIn (now (desc .entry)) constructors table) input (table .count) from r × (r ≤ from + 8) ⌝ }
+{
+    let j = skip_four(desc, constructors, table, input, from);
+    if j < from + 4 {
+        return j;
+    }
+    skip_four(desc, constructors, table, input, j)
+}
+
+// Past all from one on: eight at a time, as long as there are so many.
+fn skip_whole(desc: &[u8], constructors: Section, table: Table, input: Input, from: usize) -> usize
     requires { ⌜ inside (now desc) constructorBytes constructors ⌝ }
     requires { ⌜ table .first + table .count ≤ constructors .count ⌝ }
     requires { ⌜ (from ≤ table .count) × (input .here ≡ 2 ^ 64 - 1) ⌝ }
     ensures { λ r. ⌜ Skips (patternsIn (now (desc .entry)) constructors table) input (table .count) from r ⌝ }
 {
     let mut j = from;
-    while table.count - j >= 4 {
-        if may_agree(desc, constructors, table, input, j) {
-            return j;
+    while table.count - j >= 8 {
+        let next = skip_eight(desc, constructors, table, input, j);
+        if next < j + 8 {
+            return next;
         }
-        if may_agree(desc, constructors, table, input, j + 1) {
-            return j + 1;
-        }
-        if may_agree(desc, constructors, table, input, j + 2) {
-            return j + 2;
-        }
-        if may_agree(desc, constructors, table, input, j + 3) {
-            return j + 3;
-        }
-        j += 4;
+        j = next;
     }
     while j < table.count {
         if may_agree(desc, constructors, table, input, j) {
@@ -137,7 +164,7 @@ fn skip(desc: &[u8], constructors: Section, table: Table, input: Input, from: us
     ensures { λ r. ⌜ Skips (patternsIn (now (desc .entry)) constructors table) input (table .count) from r ⌝ }
 {
     if input.here == patterns::ALL {
-        return skip_fours(desc, constructors, table, input, from);
+        return skip_whole(desc, constructors, table, input, from);
     }
     from
 }
@@ -211,18 +238,25 @@ fn settle(desc: &[u8], constructors: Section, table: Table, input: Input, best: 
     Choice::NoMatch
 }
 
-// The choice in a table, for the bytes of the code and a context.
+// The choice in a table, for the bytes of the code and a context: `count` records from `first` on, of the constructors' section. Plain
+// numbers are handed over quicker than a layout.
 pub fn choose_in(
     desc: &[u8],
-    constructors: Section,
-    table: Table,
+    start: usize,
+    records: usize,
+    first: usize,
+    count: usize,
     code: &[u8],
     context: u64,
 ) -> Choice
-    requires { ⌜ inside (now desc) constructorBytes constructors ⌝ }
-    requires { ⌜ table .first + table .count ≤ constructors .count ⌝ }
-    ensures { λ r. ⌜ r ≡ choose (patternsIn (now (desc .entry)) constructors table) (table .count) (now (code .entry)) context ⌝ }
+    requires { ⌜ inside (now desc) constructorBytes (sectionAs start records) × (first + count ≤ records) ⌝ }
+    ensures { λ r. ⌜ r ≡ choose (patternIn (now (desc .entry)) (sectionAs start records) first) count (now (code .entry)) context ⌝ }
 {
+    let constructors = Section {
+        start,
+        count: records,
+    };
+    let table = Table { first, count };
     let input = patterns::input_of(code, context);
     let scanned = scan(desc, constructors, table, input);
     match scanned {

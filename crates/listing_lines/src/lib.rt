@@ -5,17 +5,17 @@ use printing::Printed;
 use setting::FIXED;
 use text::Line;
 use walking::Walked;
-ghost use mathlib.Core.List.{List, [], _∷_, _++_};
+ghost use mathlib.Core.List.{[], _∷_, _++_};
 ghost use mathlib.Core.Path.{_≡_};
-ghost use Prim.Native.Nat.{suc, _+_, _%_, _<_, _≤_};
-ghost use lib.ListN.{length, getD};
+ghost use Prim.Native.Nat.{_+_, _%_, _<_, _≤_};
+ghost use lib.ListN.{length};
 ghost use Rattle.format.specs.Numbers.{longestText};
 ghost use Rattle.printing.specs.Numerals.{digitOf, digitsOf};
 ghost use Rattle.setting.specs.Fixed.{Fixed};
 ghost use Rattle.text.specs.Places.{SoundRows};
 ghost use Rattle.text.specs.Prints.{described};
 ghost use Rattle.walking.specs.Walks.{toldLength};
-ghost use Rattle.listing_lines.specs.Line.{hexDigits, byteText, refusedText, refusedNext, fitting, lineText, lineBytes, malformedText, listingLine, faultLine};
+ghost use Rattle.listing_lines.specs.Line.{hexDigits, byteText, refusedText, refusedNext, lineText, lineBytes, malformedText, listingLine, faultLine};
 ghost use Rattle.listing_lines.specs.Put.{Put, Appended, PlaceOf, Shows, ShowsText};
 
 // The bytes of a line at most: the address, a colon, a blank, a text and the line's end.

@@ -5,11 +5,11 @@ use format::Layout;
 use printing::Printed;
 ghost use mathlib.Core.Bool.{true};
 ghost use mathlib.Core.Path.{_≡_};
-ghost use Prim.Native.Nat.{_+_, _≤_, min};
+ghost use Prim.Native.Nat.{_+_, min};
 ghost use lib.ListN.{length};
 ghost use Rattle.format.specs.Check.{WellFormed};
 ghost use Rattle.format.specs.Description.{description};
-ghost use Rattle.listing_text.specs.Listing.{splitOf, noLines, windowOf, faultWindow, partOf, inputWindow, listOf, listAfter};
+ghost use Rattle.listing_text.specs.Listing.{splitOf, noLines, faultWindow, partOf, inputWindow, listOf, listAfter};
 ghost use Rattle.printing.specs.Writing.{over};
 ghost use Rattle.listing_text.specs.Windows.{Lists, ListsIn};
 

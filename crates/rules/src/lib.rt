@@ -16,7 +16,7 @@ ghost use Rattle.lists.specs.Below.{allBelow};
 ghost use Rattle.format.specs.Numbers.{namesBits, byteValues};
 ghost use Rattle.format.specs.Layout.{SectionsInBounds};
 ghost use Rattle.format.specs.Description.{description, fieldsOf};
-ghost use Rattle.format.specs.Rules.{sourceOk, bitsOk, lookOk, fieldOk, nameOk, tableOk, hasTable, minimumOk, valueOk, rangeOk, shapeOk, anchorFits, operandFits, pieceFits, constructorOk, fieldFits, operandOk, pieceOk, letterOk};
+ghost use Rattle.format.specs.Rules.{sourceOk, bitsOk, lookOk, fieldOk, nameOk, tableOk, minimumOk, valueOk, rangeOk, shapeOk, anchorFits, operandFits, pieceFits, constructorOk, fieldFits, operandOk, pieceOk, letterOk};
 ghost use Rattle.rules.specs.Marks.{tableMarks, shownMarks};
 ghost use Rattle.rules.specs.Judging.{Marked, Judging, Shaped};
 

@@ -180,7 +180,16 @@ pub fn choose_at(
     ensures { λ r. ⌜ r ≡ choiceIn (settingIn (now (desc .entry)) (now (fixed .entry)) .description) table (now (code .entry)) context ⌝ }
 {
     let range = range_of(desc, fixed, table);
-    let choice = choosing::choose_in(desc, layout_of(fixed).constructors, range, code, context);
+    let layout = layout_of(fixed);
+    let choice = choosing::choose_in(
+        desc,
+        layout.constructors.start,
+        layout.constructors.count,
+        range.first,
+        range.count,
+        code,
+        context,
+    );
     match choice {
         Choice::Short => Choice::Short,
         Choice::NoMatch => Choice::NoMatch,

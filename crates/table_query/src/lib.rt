@@ -44,7 +44,15 @@ fn ask_in(desc: &[u8], layout: Layout, t: u32, context: u32, code: &[u8]) -> Ask
     if table.count == 0 {
         return Asked::NoTable(t);
     }
-    let choice = choosing::choose_in(desc, layout.constructors, table, code, context as u64);
+    let choice = choosing::choose_in(
+        desc,
+        layout.constructors.start,
+        layout.constructors.count,
+        table.first,
+        table.count,
+        code,
+        context as u64,
+    );
     match choice {
         Choice::Short => Asked::Short,
         Choice::NoMatch => Asked::NoMatch(t),

@@ -7,21 +7,17 @@ use format::Constructor;
 use format::Field;
 use format::Operand;
 use setting::FIXED;
-ghost use mathlib.Core.List.{List, [], _∷_};
+ghost use mathlib.Core.List.{[], _∷_};
 ghost use mathlib.Core.Path.{_≡_};
-ghost use Prim.Native.Nat.{ℕ, _+_, _-_, _*_, _<_, _≤_, _^_, min, max};
-ghost use lib.IntN.{ℤ, pos};
+ghost use Prim.Native.Nat.{_+_, _-_, _*_, _<_, _≤_, min, max};
 ghost use lib.ListN.{length, getD};
 ghost use Rattle.format.specs.Numbers.{longest, mostRows, tables};
-ghost use Rattle.format.specs.Rules.{bitsOf};
-ghost use Rattle.fields.specs.Value.{valueOf, Readable};
-ghost use Rattle.fields.specs.Look.{numberOf};
+ghost use Rattle.fields.specs.Value.{Readable};
 ghost use Rattle.decoding_spec.specs.State.{counted};
-ghost use Rattle.decoding_spec.specs.Walk.{widthOf, instructionFrom};
-ghost use Rattle.decoding_theorems.specs.Usable.{Placed, Usable};
+ghost use Rattle.decoding_spec.specs.Walk.{widthOf};
 ghost use Rattle.setting.specs.Fixed.{Fixed, settingIn, totalPlace};
-ghost use Rattle.walking.specs.Scratch.{sized, written, sizedOf};
-ghost use Rattle.walking.specs.Walks.{Ready, WalksTo, Within, Closes, Showable, ShownWalks, FieldWalks, OperandWalks, OperandsWalk, ConstructorWalks, TableWalks, RootWalks, PutsNumber, PlacedAt, UsableAt, ConstructorAt, answerOf, instructionAs, resultAt, toldLength};
+ghost use Rattle.walking.specs.Scratch.{sized, written};
+ghost use Rattle.walking.specs.Walks.{Ready, Within, Closes, Showable, ShownWalks, FieldWalks, OperandWalks, OperandsWalk, ConstructorWalks, TableWalks, RootWalks, PutsNumber, PlacedAt, UsableAt, ConstructorAt, answerOf, instructionAs, resultAt, toldLength};
 
 // A scratch row's numbers: those of a row, and its size. And the scratch buffer's numbers, for all rows.
 pub const SCRATCH_NUMBERS: usize = 5;

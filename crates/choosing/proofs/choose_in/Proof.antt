@@ -1,5 +1,5 @@
 use Rattle.choosing.proofs.Settling.{patterns-small, cut-short, settled}
-use Rattle.choosing.specs.Patterns.{patternsIn}
+use Rattle.choosing.specs.Patterns.{sectionAs, patternIn}
 use native.Mathlib.Omega.{arith}
 use borrow.Author.Needs.{needs}
 use Rattle.choosing.proofs.choose_in.Statement.{statement}
@@ -32,9 +32,9 @@ returns : tie.Need-returns
 returns c =
     let earlier = c .before .before .before in
     let s = earlier .before .before .before in
-    cut-short (patternsIn (s .args .desc .now) (s .args .constructors) (s .args .table)) (s .args .table .count) (s .args .code .now) (s .args .context)
+    cut-short (patternIn (s .args .desc .now) (sectionAs (s .args .start) (s .args .records)) (s .args .first)) (s .args .count) (s .args .code .now) (s .args .context)
     (earlier .input-of .result)
-    (patterns-small (s .args .desc .now) (λ i. omega (arith, earlier .before .before .shared-slice-known .given i)) (s .args .constructors) (s .args .table .first))
+    (patterns-small (s .args .desc .now) (λ i. omega (arith, earlier .before .before .shared-slice-known .given i)) (sectionAs (s .args .start) (s .args .records)) (s .args .first))
     (λ i. omega (arith, earlier .before .shared-slice-known2 .given i)) (earlier .input-of .ensures)
     (rw (c .enum-told .given .1) at (c .before .before .scan .ensures))
 
@@ -44,9 +44,9 @@ returns-2 c =
     let earliest = earlier .before .before in
     let s = earliest .before .before in
     let t = rw (c .before .before .scanned .given .1) at (earlier .scan .ensures) in
-    settled (patternsIn (s .args .desc .now) (s .args .constructors) (s .args .table)) (s .args .table .count) (s .args .code .now) (s .args .context)
+    settled (patternIn (s .args .desc .now) (sectionAs (s .args .start) (s .args .records)) (s .args .first)) (s .args .count) (s .args .code .now) (s .args .context)
     (earlier .before .input-of .result)
-    (patterns-small (s .args .desc .now) (λ i. omega (arith, earliest .before .shared-slice-known .given i)) (s .args .constructors) (s .args .table .first))
+    (patterns-small (s .args .desc .now) (λ i. omega (arith, earliest .before .shared-slice-known .given i)) (sectionAs (s .args .start) (s .args .records)) (s .args .first))
     (λ i. omega (arith, earliest .shared-slice-known2 .given i))
     (earlier .before .input-of .ensures) (t .0) (c .settle .result) (c .settle .ensures)
 

@@ -44,10 +44,9 @@ taken-requires : tie.Need-taken-requires
 taken-requires c κs =
     let earlier = c .before .before .before .before .before .before in
     let start = earlier .before .before .before in
-    let s = start in
     let f = taken-facts _ _ _ _ _ (described (start .args .desc .now) (start .args .layout) _ _ _ _ _ (sym (c .before .before .before .choose-in .ensures) ∙ c .before .choice .given .1)) in
-    let n = rw constructors-length at (in-section _ (obeyed _ _ (s .pre)) _ _ _ (earlier .table-of .ensures .0) (earlier .table-of .ensures .1)) in
-    (s .pre .room, omega (arith, f .within, n))
+    let n = rw constructors-length at (in-section _ (obeyed _ _ (start .pre)) _ _ _ (earlier .table-of .ensures .0) (earlier .table-of .ensures .1)) in
+    (start .pre .room, omega (arith, f .within, n))
 
 enum-told-3 : tie.Need-enum-told-3
 enum-told-3 c = search needs
@@ -57,7 +56,7 @@ returns-2 c =
     let earlier = c .before .before .before .before .before in
     let start = earlier .before .before .before in
     answer _ _ _ _ _ _ (earlier .table-of .ensures .0) (earlier .table-of .ensures .1)
-    (there _ (obeyed _ _ (earlier .before .before .before .pre)) _ _ _ (earlier .table-of .ensures .0) (earlier .table-of .ensures .1) (c .before .before .before .if1 .left)) _
+    (there _ (obeyed _ _ (start .pre)) _ _ _ (earlier .table-of .ensures .0) (earlier .table-of .ensures .1) (c .before .before .before .if1 .left)) _
     (described (start .args .desc .now) (start .args .layout) _ _ _ _ _ (sym (c .before .before .choose-in .ensures) ∙ c .enum-told .given .1))
 
 returns-3 : tie.Need-returns-3
@@ -65,7 +64,7 @@ returns-3 c =
     let earlier = c .before .before .before .before .before in
     let start = earlier .before .before .before in
     answer _ _ _ _ _ _ (earlier .table-of .ensures .0) (earlier .table-of .ensures .1)
-    (there _ (obeyed _ _ (earlier .before .before .before .pre)) _ _ _ (earlier .table-of .ensures .0) (earlier .table-of .ensures .1) (c .before .before .before .if1 .left)) _
+    (there _ (obeyed _ _ (start .pre)) _ _ _ (earlier .table-of .ensures .0) (earlier .table-of .ensures .1) (c .before .before .before .if1 .left)) _
     (described (start .args .desc .now) (start .args .layout) _ _ _ _ _ (sym (c .before .before .choose-in .ensures) ∙ c .enum-told2 .given .1))
 
 returns-4 : tie.Need-returns-4
@@ -75,7 +74,7 @@ returns-4 c =
     c .taken .ensures
     ∙ (rw (earlier .table-of .ensures .0) refl
     ∙ answer _ _ _ _ _ _ (earlier .table-of .ensures .0) (earlier .table-of .ensures .1)
-    (there _ (obeyed _ _ (earlier .before .before .before .pre)) _ _ _ (earlier .table-of .ensures .0) (earlier .table-of .ensures .1) (c .before .before .before .before .before .if1 .left)) _
+    (there _ (obeyed _ _ (start .pre)) _ _ _ (earlier .table-of .ensures .0) (earlier .table-of .ensures .1) (c .before .before .before .before .before .if1 .left)) _
     (described (start .args .desc .now) (start .args .layout) _ _ _ _ _ (sym (c .before .before .before .before .choose-in .ensures) ∙ c .before .before .choice .given .1)))
 
 returns-5 : tie.Need-returns-5
@@ -83,7 +82,7 @@ returns-5 c =
     let earlier = c .before .before .before .before .before in
     let start = earlier .before .before .before in
     answer _ _ _ _ _ _ (earlier .table-of .ensures .0) (earlier .table-of .ensures .1)
-    (there _ (obeyed _ _ (earlier .before .before .before .pre)) _ _ _ (earlier .table-of .ensures .0) (earlier .table-of .ensures .1) (c .before .before .before .if1 .left)) _
+    (there _ (obeyed _ _ (start .pre)) _ _ _ (earlier .table-of .ensures .0) (earlier .table-of .ensures .1) (c .before .before .before .if1 .left)) _
     (described (start .args .desc .now) (start .args .layout) _ _ _ _ _ (sym (c .before .before .choose-in .ensures) ∙ c .enum-told3 .given .1))
 
 pub ask-in-spec : {M : Type 1} → statement M
