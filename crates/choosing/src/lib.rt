@@ -132,7 +132,7 @@ fn skip_eight(desc: &[u8], constructors: Section, table: Table, input: Input, fr
     skip_four(desc, constructors, table, input, j)
 }
 
-// Past all from one on: eight at a time, as long as there are so many.
+// Past all from one on: singly until a multiple of eight is left, and then eight at a time.
 fn skip_whole(desc: &[u8], constructors: Section, table: Table, input: Input, from: usize) -> usize
     requires { ⌜ inside (now desc) constructorBytes constructors ⌝ }
     requires { ⌜ table .first + table .count ≤ constructors .count ⌝ }
@@ -140,18 +140,18 @@ fn skip_whole(desc: &[u8], constructors: Section, table: Table, input: Input, fr
     ensures { λ r. ⌜ Skips (patternsIn (now (desc .entry)) constructors table) input (table .count) from r ⌝ }
 {
     let mut j = from;
-    while table.count - j >= 8 {
+    while (table.count - j) % 8 > 0 {
+        if may_agree(desc, constructors, table, input, j) {
+            return j;
+        }
+        j += 1;
+    }
+    while j < table.count {
         let next = skip_eight(desc, constructors, table, input, j);
         if next < j + 8 {
             return next;
         }
         j = next;
-    }
-    while j < table.count {
-        if may_agree(desc, constructors, table, input, j) {
-            return j;
-        }
-        j += 1;
     }
     j
 }
