@@ -4,6 +4,7 @@
 pub mod Numbers
 pub mod Bytes
 pub mod Record
+pub mod Expression
 pub mod Layout
 pub mod Description
 pub mod Rules

@@ -22,6 +22,13 @@ mostPieces = 4096
 abbrev pub mostLetters : ℕ
 mostLetters = 8192
 
+-- section 7: "at most 256, of at most 16 steps"
+abbrev pub mostExpressions : ℕ
+mostExpressions = 256
+
+abbrev pub mostSteps : ℕ
+mostSteps = 16
+
 -- "each after its count (two bytes)", and a record's bytes
 abbrev pub countBytes : ℕ
 countBytes = 2
@@ -43,6 +50,13 @@ pieceBytes = 4
 
 abbrev pub letterBytes : ℕ
 letterBytes = 1
+
+-- an expression's bytes: its count of steps, then all steps, of nine bytes each
+abbrev pub stepBytes : ℕ
+stepBytes = 9
+
+abbrev pub expressionBytes : ℕ
+expressionBytes = 145
 
 -- "width 1 to 4 bytes", "4 names", "Look 4 has at most 8 bits", "one byte, 32 to 126"
 abbrev pub widest : ℕ

@@ -22,6 +22,11 @@ pub const PIECES: u16 = 4096;
 
 pub const LETTERS: u16 = 8192;
 
+pub const EXPRESSIONS: u16 = 256;
+
+// An expression's steps at most.
+pub const STEPS: u8 = 16;
+
 // A count's bytes, and a record's.
 pub const COUNT_BYTES: usize = 2;
 
@@ -36,6 +41,10 @@ pub const OPERAND_BYTES: u8 = 4;
 pub const PIECE_BYTES: u8 = 4;
 
 pub const LETTER_BYTES: u8 = 1;
+
+pub const STEP_BYTES: u8 = 9;
+
+pub const EXPRESSION_BYTES: u8 = 145;
 
 // A field's bytes at most; the look that shows names, and the bits of a field that has it at most.
 pub const WIDEST: u8 = 4;
@@ -128,6 +137,12 @@ pub struct Piece {
     pub kind: u8,
     pub n: u8,
     pub offset: u16,
+}
+
+// A step of an expression.
+pub struct Step {
+    pub kind: u8,
+    pub value: u64,
 }
 
 // Where a section's records start, and how many there are.
