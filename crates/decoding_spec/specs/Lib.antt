@@ -3,3 +3,4 @@ pub mod Refusals
 pub mod State
 pub mod Tree
 pub mod Walk
+pub mod Instruction

@@ -1,4 +1,4 @@
--- What an instruction consists of, as a tree of constructors and fields, and the rows that say it.
+-- What an instruction consists of, as a tree of constructors, fields and computed operands, and the rows that say it.
 use Prim.Native.Nat.{ℕ}
 use mathlib.Core.List.{List, [], _∷_, _++_}
 use lib.IntN.{ℤ, pos}
@@ -11,6 +11,8 @@ mutual
     numbered : (field start : ℕ) → ℤ → Node
     -- a field, its start and its name number
     named : (field start name : ℕ) → Node
+    -- an expression, its start and its value, which is 0 until the root's end
+    computed : (expression start : ℕ) → ℤ → Node
 
   pub data Nodes : Type 0 where
     none : Nodes
@@ -23,12 +25,13 @@ pub record Row : Type 0 where
   pub last : ℤ
 
 -- "Rows, in the order of the walk (a constructor, then its operands) ..: 0, constructor, start, length; 1, field, start, value;
--- 2, field, start, name number (first name plus value)."
+-- 2, field, start, name number (first name plus value)."; "its row is 3, expression, start, value"
 unfoldable mutual
   pub rowsOf : Node → List Row
   rowsOf (built k s l f) = record { kind = 0; number = k; start = s; last = pos l } ∷ rowsOfAll f
   rowsOf (numbered i s v) = record { kind = 1; number = i; start = s; last = v } ∷ []
   rowsOf (named i s n) = record { kind = 2; number = i; start = s; last = pos n } ∷ []
+  rowsOf (computed i s v) = record { kind = 3; number = i; start = s; last = v } ∷ []
 
   pub rowsOfAll : Nodes → List Row
   rowsOfAll none = []

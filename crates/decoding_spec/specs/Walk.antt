@@ -4,6 +4,7 @@ use Prim.Native.Nat.{ℕ, zero, suc, _+_, max}
 use mathlib.Core.Bool.{Bool, cond, _||_}
 use mathlib.Core.List.{List}
 use lib.Dec.{leb, ltb, eqb}
+use lib.IntN.{pos}
 use lib.ListN.{length, getD, drop, set, replicate}
 use Rattle.format.specs.Numbers.{longest, operandsEach, mostRows}
 use Rattle.format.specs.Description.{Description, noField, noName, noConstructor, noOperand}
@@ -20,7 +21,7 @@ use Rattle.fields.specs.Look.{lookOf, numberOf}
 use Rattle.fields.specs.declared.Look.{Look}
 use Rattle.fields.specs.declared.Look.the-variants as look
 use Rattle.decoding_spec.specs.State.{Setting, settingOf, starting, counted, closedBy}
-use Rattle.decoding_spec.specs.Tree.{Node, Nodes, built, numbered, named, none, more}
+use Rattle.decoding_spec.specs.Tree.{Node, Nodes, built, numbered, named, computed, none, more}
 use Rattle.decoding_spec.specs.declared.State.{State}
 use Rattle.decoding_spec.specs.declared.Refusal.{Refusal}
 use Rattle.decoding_spec.specs.declared.Refusal.the-variants.{Short, NoMatch, Ambiguous, Hole, TooFar, TooManyRows, RootLengthZero}
@@ -84,12 +85,23 @@ module _ (g : Setting) where
       (refused (Short p))
       (shownAs (g .description) f i p (valueOf f s (st .context)) (lookOf (f .look)) (counted st))))
 
-  -- operand x, which starts so far behind its constructor: "kind 0 a field .., 1 a table"
+  -- "no bytes and a context field's tests but 5": 7, 6, 2. Its value is 0 here: it is computed at the root's end.
+  unfoldable pub computedFrom : ℕ → ℕ → State → Result Node
+  computedFrom i p st =
+      cond (full st)
+      (refused TooManyRows)
+      (cond (ltb longest p)
+      (refused (TooFar p))
+      (cond (ltb (g .total) p) (refused (Short p)) (done (computed i p (pos 0)) 0 (counted st))))
+
+  -- operand x, which starts so far behind its constructor: "kind 0 a field .., 1 a table", "A third operand kind (2)"
   unfoldable pub operandFrom : Walker → Operand → List ℕ → ℕ → ℕ → State → Result Node
   operandFrom w x s at start st =
       cond (eqb (x .kind) 0)
       (fieldFrom (getD (g .description .fields) (x .index) noField) (x .index) (drop start s) (at + start) st)
-      (w (x .index) (drop start s) (at + start) st)
+      (cond (eqb (x .kind) 2)
+      (computedFrom (x .index) (at + start) st)
+      (w (x .index) (drop start s) (at + start) st))
 
   -- so many operands from operand o on, which is record first + o, of the constructor at place `at`; with the ends of those before
   -- them, and the farthest of these
@@ -143,8 +155,8 @@ abbrev pub rejectEmpty : Result Node → Result Node
 rejectEmpty r = andThen r λ n l st. cond (eqb l 0) (refused RootLengthZero) (done n l st)
 
 -- "The walk starts at byte 0 of the input with the root."
-unfoldable pub instructionFrom : Setting → ℕ → List ℕ → Result Node
-instructionFrom g c s = rejectEmpty (walkFrom g (suc mostRows) (rootOf (g .description)) s 0 (starting c))
+unfoldable pub walkedFrom : Setting → ℕ → List ℕ → Result Node
+walkedFrom g c s = rejectEmpty (walkFrom g (suc mostRows) (rootOf (g .description)) s 0 (starting c))
 
-unfoldable pub instructionOf : Description → ℕ → List ℕ → Result Node
-instructionOf d c s = instructionFrom (settingOf d (length s)) c s
+unfoldable pub walkedOf : Description → ℕ → List ℕ → Result Node
+walkedOf d c s = walkedFrom (settingOf d (length s)) c s

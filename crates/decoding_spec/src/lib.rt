@@ -2,7 +2,7 @@
 ghost use mathlib.Core.Path.{_≡_};
 ghost use Rattle.decoding_spec.specs.Refusals.{refusalNumber, refusalPlace, refusalTable, isShort};
 
-// Why there is no instruction: answers 2 to 8, each with its place, "no match" and "ambiguous" with their table too. The fields are
+// Why there is no instruction: answers 2 to 8 and 13, each with its place, "no match" and "ambiguous" with their table too. The fields are
 // narrow, so that a refusal stands beside the numbers of a done walk and not over them: they are copied one by one.
 pub enum Refusal {
     Short(u16),
@@ -12,6 +12,7 @@ pub enum Refusal {
     TooFar(u16),
     TooManyRows,
     RootLengthZero,
+    ValueOutside(u16),
 }
 
 // What changes along a walk: the rows used so far, the context, and the constructor closed last, which at the end is the root's. The
@@ -34,6 +35,7 @@ pub fn refusal_number(refusal: Refusal) -> u8
         Refusal::TooFar(_) => 6,
         Refusal::TooManyRows => 7,
         Refusal::RootLengthZero => 8,
+        Refusal::ValueOutside(_) => 13,
     }
 }
 
@@ -49,6 +51,7 @@ pub fn refusal_place(refusal: Refusal) -> usize
         Refusal::TooFar(place) => place as usize,
         Refusal::TooManyRows => 0,
         Refusal::RootLengthZero => 0,
+        Refusal::ValueOutside(place) => place as usize,
     }
 }
 
@@ -64,6 +67,7 @@ pub fn refusal_table(refusal: Refusal) -> u8
         Refusal::TooFar(_) => 0,
         Refusal::TooManyRows => 0,
         Refusal::RootLengthZero => 0,
+        Refusal::ValueOutside(_) => 0,
     }
 }
 
@@ -78,5 +82,6 @@ pub fn is_short(refusal: Refusal) -> bool
         Refusal::TooFar(_) => false,
         Refusal::TooManyRows => false,
         Refusal::RootLengthZero => false,
+        Refusal::ValueOutside(_) => false,
     }
 }

@@ -14,13 +14,14 @@ use Rattle.choosing_spec.specs.declared.Choice.the-variants.{Taken}
 use Rattle.choosing_spec.specs.Records.{TakenIn, NoneIn}
 use Rattle.choosing.proofs.Records.{taken-in, none-in}
 use Rattle.decoding_spec.specs.Tree.{Node, Nodes, rowsOf, rowsOfAll}
-use Rattle.decoding_spec.specs.Walk.{done, refused, choiceIn, instructionOf}
+use Rattle.decoding_spec.specs.Walk.{done, refused, choiceIn, walkedOf}
+use Rattle.decoding_spec.specs.Instruction.{instructionOf}
 use Rattle.decoding_spec.specs.declared.State.{State}
 use Rattle.decoding_spec.specs.declared.Refusal.the-variants.{NoMatch}
 use Rattle.decoding_theorems.specs.Demand.{InmostRow}
 use Rattle.decoding_theorems.specs.Facts.{Each}
-use Rattle.decoding_theorems.specs.Relation.{TableWalk, OperandWalk, OperandsWalk, taken, number, name, table, last, next}
-use Rattle.decoding_theorems.proofs.Relation.{relation}
+use Rattle.decoding_theorems.specs.Relation.{TableWalk, OperandWalk, OperandsWalk, taken, number, name, compute, table, last, next}
+use Rattle.decoding_theorems.proofs.Instructions.{relation, refused-walked}
 use Rattle.decoding_theorems.proofs.Refusals.{choice-refused}
 use Rattle.decoding_theorems.proofs.Rows.{each-append}
 use Rattle.decoding_theorems.proofs.Taken.{takes, none-taken}
@@ -50,7 +51,8 @@ module _ (d : Description) (o : RulesHold d) (c : ℕ) (input : List ℕ) where
         → Each (InmostRow d c input) (rowsOf n) × (st′ .context ≡ c)
     operand-rows (number r q) h = ((λ z. absurd (omega arith), tt), ap context (r .state) ∙ h)
     operand-rows (name r q) h = ((λ z. absurd (omega arith), tt), ap context (r .state) ∙ h)
-    operand-rows (table z w) h = table-rows w h
+    operand-rows (compute r) h = ((λ z. absurd (omega arith), tt), ap context (r .state) ∙ h)
+    operand-rows (table z y w) h = table-rows w h
 
     operands-rows : {k : Constructor} {at left i far far′ : ℕ} {ends : List ℕ} {st st′ : State} {f : Nodes}
         → OperandsWalk d input k at left i ends far st f far′ st′ → st .context ≡ c → Each (InmostRow d c input) (rowsOfAll f) × (st′ .context ≡ c)
@@ -60,8 +62,10 @@ module _ (d : Description) (o : RulesHold d) (c : ℕ) (input : List ℕ) where
         let b = operands-rows r (a .1) in
         (each-append (InmostRow d c input) (rowsOf n) (rowsOfAll f) (a .0) (b .0), b .1)
 
-  pub inmost-rows : (n : Node) (l : ℕ) (st : State) → instructionOf d c input ≡ done n l st → Each (InmostRow d c input) (rowsOf n)
-  inmost-rows n l st e = table-rows (relation d c input n l st e .root) refl .0
+  pub inmost-rows : (a : ℕ) (n : Node) (l : ℕ) (st : State) → instructionOf d c a input ≡ done n l st → Each (InmostRow d c input) (rowsOf n)
+  inmost-rows a n l st e = table-rows (relation d c a input n l st e .root) refl .0
 
-  pub none-there : (p t : ℕ) → instructionOf d c input ≡ refused (NoMatch p t) → NoneIn d t (drop p input) c
-  none-there p t e = none-in d o t (drop p input) c (none-taken d c t (drop p input) (choice-refused d c input (NoMatch p t) e))
+  pub none-there : (a p t : ℕ) → instructionOf d c a input ≡ refused (NoMatch p t) → NoneIn d t (drop p input) c
+  none-there a p t e =
+      none-in d o t (drop p input) c
+      (none-taken d c t (drop p input) (choice-refused d c input (NoMatch p t) (refused-walked d c a input (NoMatch p t) (λ q z. let w : _≡_ {A = ℕ} 0 1 = cc in omega arith) e)))

@@ -20,7 +20,7 @@ use Rattle.choosing_spec.specs.declared.Choice.{Choice}
 use Rattle.choosing_spec.specs.declared.Choice.the-variants as choice
 use Rattle.decoding_spec.specs.State.{Setting, starting, counted}
 use Rattle.decoding_spec.specs.Tree.{Node, Nodes, more}
-use Rattle.decoding_spec.specs.Walk.{Result, done, refused, Walker, andThen, full, widthOf, choiceIn, shownAs, startOf, closed, fieldFrom, operandFrom, operandsFrom, constructorFrom, taking, tableFrom, walkFrom, rejectEmpty, instructionFrom}
+use Rattle.decoding_spec.specs.Walk.{Result, done, refused, Walker, andThen, full, widthOf, choiceIn, shownAs, startOf, closed, fieldFrom, computedFrom, operandFrom, operandsFrom, constructorFrom, taking, tableFrom, walkFrom, rejectEmpty, walkedFrom}
 use Rattle.decoding_spec.specs.declared.State.{State}
 use Rattle.decoding_spec.specs.declared.Refusal.{Refusal}
 use Rattle.decoding_spec.specs.declared.Refusal.the-variants.{Short, Hole, TooFar, TooManyRows, RootLengthZero}
@@ -56,16 +56,23 @@ module _ (g : Setting) where
       test (Since (st .used)) (ltb (g .total) (p + widthOf f)) (Short p) _ λ c.
       shown-grows f i p (valueOf f s (st .context)) (lookOf (f .look)) (counted st) (st .used) (omega arith)
 
+  computed-grows : (i p : ℕ) (st : State) → Done (Since (st .used)) (computedFrom g i p st)
+  unfolding computedFrom
+  computed-grows i p st =
+      test (Since (st .used)) (full st) TooManyRows _ λ a.
+      test (Since (st .used)) (ltb longest p) (TooFar p) _ λ b. test (Since (st .used)) (ltb (g .total) p) (Short p) _ λ c. omega arith
+
   module _ (w : Walker) (grows : Grows w) where
     operand-grows : (x : Operand) (s : List ℕ) (at start : ℕ) (st : State) → Done (Since (st .used)) (operandFrom g w x s at start st)
     unfolding operandFrom
-    operand-grows x s at start st = go (eqb (x .kind) 0)
+    operand-grows x s at start st = go (eqb (x .kind) 0) (eqb (x .kind) 2)
       where
-        go : (t : Bool)
+        go : (t u : Bool)
             → Done (Since (st .used)) (cond t (fieldFrom g (getD (g .description .fields) (x .index) noField) (x .index) (drop start s) (at + start) st)
-            (w (x .index) (drop start s) (at + start) st))
-        go true = field-grows (getD (g .description .fields) (x .index) noField) (x .index) (drop start s) (at + start) st
-        go false = grows (x .index) (drop start s) (at + start) st
+            (cond u (computedFrom g (x .index) (at + start) st) (w (x .index) (drop start s) (at + start) st)))
+        go true u = field-grows (getD (g .description .fields) (x .index) noField) (x .index) (drop start s) (at + start) st
+        go false true = computed-grows (x .index) (at + start) st
+        go false false = grows (x .index) (drop start s) (at + start) st
 
     operands-grow : (first : ℕ) (s : List ℕ) (at left o : ℕ) (ends : List ℕ) (far : ℕ) (st : State) (u : ℕ) → u ≤ st .used
         → Done (Since u) (operandsFrom g w first s at left o ends far st)
@@ -113,7 +120,9 @@ module _ (g : Setting) where
         → operandFrom g w′ x s at start st ≡ operandFrom g w x s at start st
     unfolding operandFrom
     operand-same x s at start st h =
-        ap (cond (eqb (x .kind) 0) (fieldFrom g (getD (g .description .fields) (x .index) noField) (x .index) (drop start s) (at + start) st))
+        ap (λ (r : Result Node).
+        cond (eqb (x .kind) 0) (fieldFrom g (getD (g .description .fields) (x .index) noField) (x .index) (drop start s) (at + start) st)
+        (cond (eqb (x .kind) 2) (computedFrom g (x .index) (at + start) st) r))
         (same (x .index) (drop start s) (at + start) st h)
 
     operands-same : (first : ℕ) (s : List ℕ) (at left o : ℕ) (ends : List ℕ) (far : ℕ) (st : State) → u ≤ st .used
@@ -160,6 +169,6 @@ module _ (g : Setting) where
 
   -- the instruction with any greater depth
   pub deep : (deeper c : ℕ) (s : List ℕ)
-      → rejectEmpty (walkFrom g (suc mostRows + deeper) (rootOf (g .description)) s 0 (starting c)) ≡ instructionFrom g c s
-  unfolding instructionFrom
+      → rejectEmpty (walkFrom g (suc mostRows + deeper) (rootOf (g .description)) s 0 (starting c)) ≡ walkedFrom g c s
+  unfolding walkedFrom
   deep deeper c s = ap rejectEmpty (walk-deep (suc mostRows) deeper (rootOf (g .description)) s 0 (starting c) (omega arith))

@@ -7,14 +7,18 @@ use lib.ListN.{length, length-append}
 use Rattle.format.specs.Numbers.{mostRows}
 use Rattle.format.specs.Rules.{operandOf}
 use Rattle.format.specs.Description.{Description}
+use Rattle.format.specs.Tables.{rootOf}
+use Rattle.decoding_spec.specs.State.{starting}
 use Rattle.format.specs.declared.Constructor.{Constructor}
 use Rattle.format.specs.declared.Operand.{Operand}
 use Rattle.decoding_spec.specs.Tree.{Node, Nodes, rowsOf, rowsOfAll}
-use Rattle.decoding_spec.specs.Walk.{done, startOf, instructionOf}
+use Rattle.decoding_spec.specs.Walk.{done, startOf, walkedOf}
+use Rattle.decoding_spec.specs.Instruction.{instructionOf}
 use Rattle.decoding_spec.specs.declared.State.{State}
 use Rattle.decoding_theorems.specs.Facts.{Each, endOf, InBounds}
-use Rattle.decoding_theorems.specs.Relation.{TableWalk, OperandWalk, OperandsWalk, Fits, taken, number, name, table, last, next}
-use Rattle.decoding_theorems.proofs.Relation.{relation}
+use Rattle.decoding_theorems.specs.Relation.{TableWalk, OperandWalk, OperandsWalk, Fits, taken, number, name, compute, table, last, next}
+use Rattle.decoding_theorems.proofs.Relation.{walked}
+use Rattle.decoding_theorems.proofs.Instructions.{relation}
 use Rattle.decoding_theorems.proofs.Rows.{each-append}
 
 abbrev used : State → ℕ
@@ -32,7 +36,8 @@ module _ (d : Description) (input : List ℕ) where
         → st′ .used ≡ st .used + length (rowsOf n)
     operand-used (number r q) = omega (arith, ap used (r .state))
     operand-used (name r q) = omega (arith, ap used (r .state))
-    operand-used (table z w) = table-used w
+    operand-used (compute r) = omega (arith, ap used (r .state))
+    operand-used (table z y w) = table-used w
 
     operands-used : {k : Constructor} {at left o far far′ : ℕ} {ends : List ℕ} {st st′ : State} {f : Nodes}
         → OperandsWalk d input k at left o ends far st f far′ st′ → st′ .used ≡ st .used + length (rowsOfAll f)
@@ -47,7 +52,8 @@ module _ (d : Description) (input : List ℕ) where
     operand-few : {x : Operand} {at : ℕ} {st st′ : State} {n : Node} {l : ℕ} → OperandWalk d input x at st n l st′ → st′ .used ≤ mostRows
     operand-few (number r q) = omega (arith, ap used (r .state), r .fits .room)
     operand-few (name r q) = omega (arith, ap used (r .state), r .fits .room)
-    operand-few (table z w) = table-few w
+    operand-few (compute r) = omega (arith, ap used (r .state), r .fits .room)
+    operand-few (table z y w) = table-few w
 
     operands-few : {k : Constructor} {at left o far far′ : ℕ} {ends : List ℕ} {st st′ : State} {f : Nodes}
         → OperandsWalk d input k at left o ends far st f far′ st′ → st .used ≤ mostRows → st′ .used ≤ mostRows
@@ -71,7 +77,8 @@ module _ (d : Description) (input : List ℕ) where
         → Each (λ r. endOf d r ≤ end) (rowsOf n)
     operand-ends (number r q) end w = (rw (r .size) at w, tt)
     operand-ends (name r q) end w = (rw (r .size) at w, tt)
-    operand-ends (table z t) end w = table-ends t end w
+    operand-ends (compute r) end w = (omega arith, tt)
+    operand-ends (table z y t) end w = table-ends t end w
 
     operands-end : {k : Constructor} {at left o far far′ : ℕ} {ends : List ℕ} {st st′ : State} {f : Nodes}
         → OperandsWalk d input k at left o ends far st f far′ st′ → (end : ℕ) → at + far′ ≤ end → Each (λ r. endOf d r ≤ end) (rowsOfAll f)
@@ -82,18 +89,27 @@ module _ (d : Description) (input : List ℕ) where
   table-fits : {t at : ℕ} {st st′ : State} {n : Node} {l : ℕ} → TableWalk d input t at st n l st′ → Fits input at st l
   table-fits (taken c f) = c .fits
 
-pub in-bounds : (d : Description) (c : ℕ) (s : List ℕ) (n : Node) (l : ℕ) (st : State) → instructionOf d c s ≡ done n l st → InBounds d s n l
-in-bounds d c s n l st e =
-    let i = relation d c s n l st e in
-    let r = table-fits d s (i .root) in
+-- of the walk's tree, and of the instruction's
+root-bounds : (d : Description) (c : ℕ) (s : List ℕ) (n : Node) (l : ℕ) (st : State) → 1 ≤ l → TableWalk d s (rootOf d) 0 (starting c) n l st → InBounds d s n l
+root-bounds d c s n l st some root =
+    let r = table-fits d s root in
     record {
-      some = i .some;
+      some = some;
       near = omega (arith, r .near);
       here = omega (arith, r .here);
-      few = omega (arith, table-used d s (i .root), table-few d s (i .root));
-      rows = table-ends d s (i .root) l (omega arith);
+      few = omega (arith, table-used d s root, table-few d s root);
+      rows = table-ends d s root l (omega arith);
     }
 
+pub walked-bounds : (d : Description) (c : ℕ) (s : List ℕ) (n : Node) (l : ℕ) (st : State) → walkedOf d c s ≡ done n l st → InBounds d s n l
+walked-bounds d c s n l st e = let w = walked d c s n l st e in root-bounds d c s n l st (w .some) (w .root)
+
+pub in-bounds : (d : Description) (c a : ℕ) (s : List ℕ) (n : Node) (l : ℕ) (st : State) → instructionOf d c a s ≡ done n l st → InBounds d s n l
+in-bounds d c a s n l st e = let i = relation d c a s n l st e in root-bounds d c s n l st (i .some) (i .root)
+
 -- the state's count of rows is that of the tree
-pub used-rows : (d : Description) (c : ℕ) (s : List ℕ) (n : Node) (l : ℕ) (st : State) → instructionOf d c s ≡ done n l st → st .used ≡ length (rowsOf n)
-used-rows d c s n l st e = let u = table-used d s (relation d c s n l st e .root) in omega arith
+pub walked-rows : (d : Description) (c : ℕ) (s : List ℕ) (n : Node) (l : ℕ) (st : State) → walkedOf d c s ≡ done n l st → st .used ≡ length (rowsOf n)
+walked-rows d c s n l st e = let u = table-used d s (walked d c s n l st e .root) in omega arith
+
+pub used-rows : (d : Description) (c a : ℕ) (s : List ℕ) (n : Node) (l : ℕ) (st : State) → instructionOf d c a s ≡ done n l st → st .used ≡ length (rowsOf n)
+used-rows d c a s n l st e = let u = table-used d s (relation d c a s n l st e .root) in omega arith

@@ -28,7 +28,7 @@ use Rattle.choosing_spec.specs.Table.{patternFrom}
 use Rattle.choosing_theorems.proofs.Taken as choosing
 use Rattle.decoding_spec.specs.State.{Setting, starting, counted, settingOf}
 use Rattle.decoding_spec.specs.Tree.{Node, Nodes, more}
-use Rattle.decoding_spec.specs.Walk.{Result, done, refused, Walker, andThen, full, widthOf, choiceIn, shownAs, startOf, closed, fieldFrom, operandFrom, operandsFrom, constructorFrom, taking, tableFrom, walkFrom, rejectEmpty, instructionFrom, instructionOf}
+use Rattle.decoding_spec.specs.Walk.{Result, done, refused, Walker, andThen, full, widthOf, choiceIn, shownAs, startOf, closed, fieldFrom, computedFrom, operandFrom, operandsFrom, constructorFrom, taking, tableFrom, walkFrom, rejectEmpty, walkedFrom, walkedOf}
 use Rattle.decoding_spec.specs.declared.State.{State}
 use Rattle.decoding_spec.specs.declared.Refusal.{Refusal}
 use Rattle.decoding_spec.specs.declared.Refusal.the-variants.{Short, NoMatch, Hole, TooFar, TooManyRows, RootLengthZero}
@@ -64,6 +64,11 @@ module _ (d : Description) (c : ℕ) (input : List ℕ) where
         (test (ltb (g .total) (p + widthOf f)) (Short p) _ tt
         (shown (g .description) f i p (valueOf f s (st .context)) (lookOf (f .look)) (counted st) h)))
 
+    compute : (i p : ℕ) (st : State) → st .context ≡ c → Explained (computedFrom g i p st)
+    unfolding computedFrom
+    compute i p st h =
+        test (full st) TooManyRows _ tt (test (ltb longest p) (TooFar p) _ tt (test (ltb (g .total) p) (Short p) _ tt h))
+
     -- a walker that is handed the input's bytes from its place on
     abbrev Explains : Walker → Type 0
     Explains w = (t : ℕ) (s : List ℕ) (at : ℕ) (st : State) → s ≡ drop at input → st .context ≡ c → Explained (w t s at st)
@@ -72,13 +77,14 @@ module _ (d : Description) (c : ℕ) (input : List ℕ) where
       operand : (x : Operand) (s : List ℕ) (at start : ℕ) (st : State) → s ≡ drop at input → st .context ≡ c
           → Explained (operandFrom g w x s at start st)
       unfolding operandFrom
-      operand x s at start st p h = go (eqb (x .kind) 0)
+      operand x s at start st p h = go (eqb (x .kind) 0) (eqb (x .kind) 2)
         where
-          go : (t : Bool)
+          go : (t u : Bool)
               → Explained (cond t (fieldFrom g (getD (g .description .fields) (x .index) noField) (x .index) (drop start s) (at + start) st)
-              (w (x .index) (drop start s) (at + start) st))
-          go true = field (getD (g .description .fields) (x .index) noField) (x .index) (drop start s) (at + start) st h
-          go false = explains (x .index) (drop start s) (at + start) st (ap (drop start) p ∙ drop-drop start at input) h
+              (cond u (computedFrom g (x .index) (at + start) st) (w (x .index) (drop start s) (at + start) st)))
+          go true u = field (getD (g .description .fields) (x .index) noField) (x .index) (drop start s) (at + start) st h
+          go false true = compute (x .index) (at + start) st h
+          go false false = explains (x .index) (drop start s) (at + start) st (ap (drop start) p ∙ drop-drop start at input) h
 
       operands : (first : ℕ) (s : List ℕ) (at left o : ℕ) (ends : List ℕ) (far : ℕ) (st : State) → s ≡ drop at input → st .context ≡ c
           → Explained (operandsFrom g w first s at left o ends far st)
@@ -116,18 +122,18 @@ module _ (d : Description) (c : ℕ) (input : List ℕ) where
     walk zero t s at st p h = tt
     walk (suc depth) t s at st p h = table (walkFrom g depth) (walk depth) t s at st p h
 
-  explained : Explained (instructionOf d c input)
-  unfolding instructionOf instructionFrom
+  explained : Explained (walkedOf d c input)
+  unfolding walkedOf walkedFrom
   explained =
       let g : Setting = settingOf d (length input) in
       and-then (walkFrom g (suc mostRows) (rootOf d) input 0 (starting c)) _ (walk g refl (suc mostRows) (rootOf d) input 0 (starting c) refl refl)
       (λ n l st h. test (eqb l 0) RootLengthZero (done n l st) tt h)
 
-  pub choice-refused : (x : Refusal) → instructionOf d c input ≡ refused x → ChoiceRefused d c input x
+  pub choice-refused : (x : Refusal) → walkedOf d c input ≡ refused x → ChoiceRefused d c input x
   choice-refused x e = rw e at explained
 
   -- none of that table's constructors matches the input's bytes from that place on
-  pub none-matches : RulesHold d → (p t : ℕ) → instructionOf d c input ≡ refused (NoMatch p t) → (k : ℕ) → k < length (d .constructors)
+  pub none-matches : RulesHold d → (p t : ℕ) → walkedOf d c input ≡ refused (NoMatch p t) → (k : ℕ) → k < length (d .constructors)
       → tableAt d k ≡ t → matches (getD (d .constructors) k noConstructor .pattern) (drop p input) c ≡ false
   unfolding patternFrom matching
   none-matches o p t e k h f =

@@ -22,11 +22,11 @@ use Rattle.choosing_spec.specs.declared.Choice.{Choice}
 use Rattle.choosing_spec.specs.declared.Choice.the-variants as choice
 use Rattle.decoding_spec.specs.State.{Setting, starting, counted, closedBy, settingOf}
 use Rattle.decoding_spec.specs.Tree.{Node, Nodes, built, more, none}
-use Rattle.decoding_spec.specs.Walk.{Result, done, refused, Walker, andThen, full, widthOf, choiceIn, shownAs, startOf, closed, closing, fieldFrom, operandFrom, operandsFrom, constructorFrom, taking, tableFrom, walkFrom, rejectEmpty, instructionFrom, instructionOf}
+use Rattle.decoding_spec.specs.Walk.{Result, done, refused, Walker, andThen, full, widthOf, choiceIn, shownAs, startOf, closed, closing, fieldFrom, computedFrom, operandFrom, operandsFrom, constructorFrom, taking, tableFrom, walkFrom, rejectEmpty, walkedFrom, walkedOf}
 use Rattle.decoding_spec.specs.declared.State.{State}
 use Rattle.decoding_spec.specs.declared.Refusal.{Refusal}
 use Rattle.decoding_spec.specs.declared.Refusal.the-variants.{Short, Hole, TooFar, TooManyRows, RootLengthZero}
-use Rattle.decoding_theorems.specs.Relation.{Fits, FieldAt, fieldOf, constructorOf, TableWalk, OperandWalk, OperandsWalk, taken, number, name, table, last, next}
+use Rattle.decoding_theorems.specs.Relation.{Fits, FieldAt, fieldOf, constructorOf, TableWalk, OperandWalk, OperandsWalk, taken, number, name, compute, table, last, next}
 
 -- what holds of a result that is done
 abbrev pub Done : {A : Type 0} → (A → ℕ → State → Type 0) → Result A → Type 0
@@ -83,22 +83,35 @@ module _ (d : Description) (input : List ℕ) where
       shown-walk x (x .index) at st (valueOf f s (st .context)) (record { kind = z; index = refl; size = refl; fits = fits; state = refl })
       (ap (λ (l : List ℕ). valueOf f l (st .context)) p) (lookOf (f .look)) refl
 
+  computed-walk : (x : Operand) (at : ℕ) (st : State) → x .kind ≡ 2 → Done (OperandWalk d input x at st) (computedFrom g (x .index) at st)
+  unfolding computedFrom
+  computed-walk x at st z =
+      test (OperandWalk d input x at st) (full st) TooManyRows _ λ room.
+      test (OperandWalk d input x at st) (ltb longest at) (TooFar at) _ λ near.
+      test (OperandWalk d input x at st) (ltb (length input) at) (Short at) _ λ here.
+      let a = leb-false mostRows (st .used) room in
+      let b = ltb-false longest at near in
+      let c = ltb-false (length input) at here in
+      compute (record { kind = z; index = refl; fits = record { room = a; near = omega arith; here = omega arith }; state = refl })
+
   module _ (w : Walker) (walks : Walks w) where
     operand-walk : (x : Operand) (s : List ℕ) (at start : ℕ) (st : State) → s ≡ drop at input
         → Done (OperandWalk d input x (at + start) st) (operandFrom g w x s at start st)
     unfolding operandFrom
-    operand-walk x s at start st p = go (eqb (x .kind) 0) refl
+    operand-walk x s at start st p = go (eqb (x .kind) 0) (eqb (x .kind) 2) refl refl
       where
         there : drop start s ≡ drop (at + start) input
         there = ap (drop start) p ∙ drop-drop start at input
 
-        go : (t : Bool) → eqb (x .kind) 0 ≡ t
-            → Done (OperandWalk d input x (at + start) st) (cond t (fieldFrom g (fieldOf d input (x .index)) (x .index) (drop start s) (at + start) st) (w (x .index) (drop start s) (at + start) st))
-        go true q = field-walk x (drop start s) (at + start) st (eqb-true (x .kind) 0 q) there
-        go false q = inner (w (x .index) (drop start s) (at + start) st) (walks (x .index) (drop start s) (at + start) st there)
+        go : (t u : Bool) → eqb (x .kind) 0 ≡ t → eqb (x .kind) 2 ≡ u
+            → Done (OperandWalk d input x (at + start) st) (cond t (fieldFrom g (fieldOf d input (x .index)) (x .index) (drop start s) (at + start) st)
+            (cond u (computedFrom g (x .index) (at + start) st) (w (x .index) (drop start s) (at + start) st)))
+        go true u q q′ = field-walk x (drop start s) (at + start) st (eqb-true (x .kind) 0 q) there
+        go false true q q′ = computed-walk x (at + start) st (eqb-true (x .kind) 2 q′)
+        go false false q q′ = inner (w (x .index) (drop start s) (at + start) st) (walks (x .index) (drop start s) (at + start) st there)
           where
             inner : (r : Result Node) → Done (TableWalk d input (x .index) (at + start) st) r → Done (OperandWalk d input x (at + start) st) r
-            inner (done n l st′) h = table (eqb-false (x .kind) 0 q) h
+            inner (done n l st′) h = table (eqb-false (x .kind) 0 q) (eqb-false (x .kind) 2 q′) h
             inner (refused r) h = tt
 
     operands-walk : (k : Constructor) (s : List ℕ) (at left o : ℕ) (ends : List ℕ) (far : ℕ) (st : State) → s ≡ drop at input
@@ -144,17 +157,17 @@ module _ (d : Description) (input : List ℕ) where
   walk zero t s at st p = tt
   walk (suc depth) t s at st p = table-walk (walkFrom g depth) (walk depth) t s at st p
 
--- the tree of a done instruction, of this length, with the state behind it
-pub record Instruction (d : Description) (c : ℕ) (s : List ℕ) (n : Node) (l : ℕ) (st : State) : Type 0 where
+-- the tree of a done walk, of this length, with the state behind it
+pub record Walked (d : Description) (c : ℕ) (s : List ℕ) (n : Node) (l : ℕ) (st : State) : Type 0 where
   pub some : 1 ≤ l
   pub root : TableWalk d s (rootOf d) 0 (starting c) n l st
 
-every : (d : Description) (c : ℕ) (s : List ℕ) → Done (Instruction d c s) (instructionOf d c s)
-unfolding instructionOf instructionFrom
+every : (d : Description) (c : ℕ) (s : List ℕ) → Done (Walked d c s) (walkedOf d c s)
+unfolding walkedOf walkedFrom
 every d c s =
-    then (TableWalk d s (rootOf d) 0 (starting c)) (Instruction d c s) (walkFrom (g d s) (suc mostRows) (rootOf d) s 0 (starting c)) _
+    then (TableWalk d s (rootOf d) 0 (starting c)) (Walked d c s) (walkFrom (g d s) (suc mostRows) (rootOf d) s 0 (starting c)) _
     (walk d s (suc mostRows) (rootOf d) s 0 (starting c) refl)
-    (λ n l st h. test (Instruction d c s) (eqb l 0) RootLengthZero (done n l st) λ z. let some = eqb-false l 0 z in record { some = omega arith; root = h })
+    (λ n l st h. test (Walked d c s) (eqb l 0) RootLengthZero (done n l st) λ z. let some = eqb-false l 0 z in record { some = omega arith; root = h })
 
-pub relation : (d : Description) (c : ℕ) (s : List ℕ) (n : Node) (l : ℕ) (st : State) → instructionOf d c s ≡ done n l st → Instruction d c s n l st
-relation d c s n l st e = rw e at (every d c s)
+pub walked : (d : Description) (c : ℕ) (s : List ℕ) (n : Node) (l : ℕ) (st : State) → walkedOf d c s ≡ done n l st → Walked d c s n l st
+walked d c s n l st e = rw e at (every d c s)

@@ -23,7 +23,7 @@ use Rattle.choosing_spec.specs.Table.{chooseIn}
 use Rattle.choosing_theorems.proofs.Stays as choosing
 use Rattle.decoding_spec.specs.State.{Setting, starting, counted, settingOf}
 use Rattle.decoding_spec.specs.Tree.{Node, Nodes, more}
-use Rattle.decoding_spec.specs.Walk.{Result, done, refused, Walker, andThen, full, widthOf, numberedFrom, choiceIn, shownAs, startOf, closed, closing, fieldFrom, operandFrom, operandsFrom, constructorFrom, taking, tableFrom, walkFrom, rejectEmpty, instructionFrom, instructionOf}
+use Rattle.decoding_spec.specs.Walk.{Result, done, refused, Walker, andThen, full, widthOf, numberedFrom, choiceIn, shownAs, startOf, closed, closing, fieldFrom, computedFrom, operandFrom, operandsFrom, constructorFrom, taking, tableFrom, walkFrom, rejectEmpty, walkedFrom, walkedOf}
 use Rattle.decoding_spec.specs.declared.State.{State}
 use Rattle.decoding_spec.specs.declared.Refusal.{Refusal}
 use Rattle.decoding_spec.specs.declared.Refusal.the-variants.{Short, TooFar, TooManyRows}
@@ -90,6 +90,10 @@ module _ (d : Description) (o : RulesHold d) (total total′ : ℕ) (grows : tot
       long true q near e = omega arith
       long false q near e = absurd (eqb-false (f .source) 0 q e)
 
+  computed-stays : (i p : ℕ) (st : State) → Whole (computedFrom g i p st) → computedFrom g′ i p st ≡ computedFrom g i p st
+  unfolding computedFrom
+  computed-stays i p st = test-stays (full st) TooManyRows _ _ (test-stays (ltb longest p) (TooFar p) _ _ (within-stays p p _ _ (λ near h. refl)))
+
   -- two walkers agree wherever the first is not short
   abbrev Agree : Walker → Walker → Type 0
   Agree w w′ =
@@ -103,7 +107,7 @@ module _ (d : Description) (o : RulesHold d) (total total′ : ℕ) (grows : tot
     operand-stays : (x : Operand) (s m : List ℕ) (at start : ℕ) (st : State) → Placed d x → length s ≡ total - at
         → Whole (operandFrom g w x s at start st) → operandFrom g′ w′ x (s ++ m) at start st ≡ operandFrom g w x s at start st
     unfolding operandFrom
-    operand-stays x s m at start st p l h = rw (drop-more start s m) (go (eqb (x .kind) 0) refl h)
+    operand-stays x s m at start st p l h = rw (drop-more start s m) (go (eqb (x .kind) 0) (eqb (x .kind) 2) refl h)
       where
         f : Field
         f = getD (d .fields) (x .index) noField
@@ -114,14 +118,18 @@ module _ (d : Description) (o : RulesHold d) (total total′ : ℕ) (grows : tot
         inner : length (drop start s) ≡ total - (at + start)
         inner = length-drop start s ∙ omega arith
 
-        go : (t : Bool) → eqb (x .kind) 0 ≡ t
-            → Whole (cond t (fieldFrom g f (x .index) (drop start s) (at + start) st) (w (x .index) (drop start s) (at + start) st))
-            → cond t (fieldFrom g′ f (x .index) (drop start s ++ behind) (at + start) st) (w′ (x .index) (drop start s ++ behind) (at + start) st)
-            ≡ cond t (fieldFrom g f (x .index) (drop start s) (at + start) st) (w (x .index) (drop start s) (at + start) st)
-        go true q h =
+        go : (t u : Bool) → eqb (x .kind) 0 ≡ t
+            → Whole (cond t (fieldFrom g f (x .index) (drop start s) (at + start) st)
+            (cond u (computedFrom g (x .index) (at + start) st) (w (x .index) (drop start s) (at + start) st)))
+            → cond t (fieldFrom g′ f (x .index) (drop start s ++ behind) (at + start) st)
+            (cond u (computedFrom g′ (x .index) (at + start) st) (w′ (x .index) (drop start s ++ behind) (at + start) st))
+            ≡ cond t (fieldFrom g f (x .index) (drop start s) (at + start) st)
+            (cond u (computedFrom g (x .index) (at + start) st) (w (x .index) (drop start s) (at + start) st))
+        go true u q h =
             field-stays f (x .index) (drop start s) behind (at + start) st
             (readable (length (d .names)) f (field-ok d o (x .index) (p .field (eqb-true (x .kind) 0 q)))) inner h
-        go false q h = agree (x .index) (drop start s) behind (at + start) st inner h
+        go false true q h = computed-stays (x .index) (at + start) st h
+        go false false q h = agree (x .index) (drop start s) behind (at + start) st inner h
 
     operands-stay : (first : ℕ) (s m : List ℕ) (at left i : ℕ) (ends : List ℕ) (far : ℕ) (st : State)
         → ((j : ℕ) → i ≤ j → j < i + left → Placed d (getD (d .operands) (first + j) noOperand)) → length s ≡ total - at
@@ -176,10 +184,10 @@ module _ (d : Description) (o : RulesHold d) (total total′ : ℕ) (grows : tot
   walk-stays zero t s m at st l h = refl
   walk-stays (suc depth) t s m at st l h = table-stays (walkFrom g depth) (walkFrom g′ depth) (walk-stays depth) t s m at st l h
 
-pub stays : (d : Description) → RulesHold d → (c : ℕ) (s m : List ℕ) → ((p : ℕ) → instructionOf d c s ≡ refused (Short p) → ⊥)
-    → instructionOf d c (s ++ m) ≡ instructionOf d c s
-unfolding instructionOf instructionFrom
-stays d o c s m h =
+pub walk-stays-whole : (d : Description) → RulesHold d → (c : ℕ) (s m : List ℕ) → ((p : ℕ) → walkedOf d c s ≡ refused (Short p) → ⊥)
+    → walkedOf d c (s ++ m) ≡ walkedOf d c s
+unfolding walkedOf walkedFrom
+walk-stays-whole d o c s m h =
     then-stays (walkFrom (settingOf d (length s)) (suc mostRows) (rootOf d) s 0 (starting c)) _ _ _
     (walk-stays d o (length s) (length (s ++ m)) (omega (arith, length-append s m)) (suc mostRows) (rootOf d) s m 0 (starting c) (omega arith))
     (λ n l st h. refl)

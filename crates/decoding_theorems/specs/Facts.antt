@@ -1,18 +1,20 @@
 -- What the theorems say of a decoded instruction.
 use Prim.Native.Nat.{ℕ, _+_, _-_, _≤_, _<_}
-use mathlib.Core.Bool.{cond}
+use mathlib.Core.Bool.{true, cond}
 use mathlib.Core.List.{List, [], _∷_}
 use mathlib.Core.Path.{_≡_}
 use lib.Dec.{eqb}
 use lib.IntN.{natAbs}
 use lib.ListN.{length, getD, drop}
-use Rattle.format.specs.Numbers.{longest, mostRows}
+use Rattle.format.specs.Numbers.{longest, mostRows, operandsEach}
+use Rattle.format.specs.Expression.{noExpression, namesOnly}
+use Rattle.expressions.specs.Value as expression
 use Rattle.format.specs.Description.{Description, noField, noConstructor}
 use Rattle.choosing_spec.specs.declared.Choice.the-variants as choice
-use Rattle.decoding_spec.specs.Tree.{Row, Node, Nodes, built, numbered, named, none, more, rowsOf}
+use Rattle.decoding_spec.specs.Tree.{Row, Node, Nodes, built, numbered, named, computed, none, more, rowsOf}
 use Rattle.decoding_spec.specs.Walk.{widthOf, choiceIn}
 use Rattle.decoding_spec.specs.declared.Refusal.{Refusal}
-use Rattle.decoding_spec.specs.declared.Refusal.the-variants.{Short, NoMatch, Ambiguous, Hole, TooFar, TooManyRows, RootLengthZero}
+use Rattle.decoding_spec.specs.declared.Refusal.the-variants.{Short, NoMatch, Ambiguous, Hole, TooFar, TooManyRows, RootLengthZero, ValueOutside}
 
 -- every row of a list
 abbrev pub Each : (Row → Type 0) → List Row → Type 0
@@ -28,10 +30,14 @@ ChoiceRefused d c s (Hole p) = Unit {0}
 ChoiceRefused d c s (TooFar p) = Unit {0}
 ChoiceRefused d c s TooManyRows = Unit {0}
 ChoiceRefused d c s RootLengthZero = Unit {0}
+ChoiceRefused d c s (ValueOutside p) = Unit {0}
 
--- where a row ends: a constructor by its length, a field by its width
+-- where a row ends: a constructor by its length, a field by its width; a computed operand has no bytes
 abbrev pub endOf : Description → Row → ℕ
-endOf d r = cond (eqb (r .kind) 0) (r .start + natAbs (r .last)) (r .start + widthOf (getD (d .fields) (r .number) noField))
+endOf d r =
+    cond (eqb (r .kind) 0)
+    (r .start + natAbs (r .last))
+    (cond (eqb (r .kind) 3) (r .start) (r .start + widthOf (getD (d .fields) (r .number) noField)))
 
 -- an instruction of this length for the input s: 1 to 16 bytes, all of them there, at most 32 rows, and every row ends in it
 pub record InBounds (d : Description) (s : List ℕ) (n : Node) (size : ℕ) : Type 0 where
@@ -40,6 +46,13 @@ pub record InBounds (d : Description) (s : List ℕ) (n : Node) (size : ℕ) : T
   pub here : size ≤ length s
   pub few : length (rowsOf n) ≤ mostRows
   pub rows : Each (λ r. endOf d r ≤ size) (rowsOf n)
+
+-- a constructor, as every root is
+abbrev pub Built : Node → Type 0
+Built (built k s l f) = Unit {0}
+Built (numbered i s v) = ⊥
+Built (named i s n) = ⊥
+Built (computed i s v) = ⊥
 
 -- how many operands there are
 unfoldable pub countOf : Nodes → ℕ
@@ -53,6 +66,7 @@ abbrev mutual
       (k < length (d .constructors)) × (countOf f ≡ getD (d .constructors) k noConstructor .operands .count) × ShapedAll d f
   Shaped d (numbered i s v) = i < length (d .fields)
   Shaped d (named i s n) = (i < length (d .fields)) × (n < length (d .names))
+  Shaped d (computed i s v) = (i < length (d .expressions)) × (namesOnly (expression.numbered operandsEach) (getD (d .expressions) i noExpression) ≡ true)
 
   pub ShapedAll : Description → Nodes → Type 0
   ShapedAll d none = Unit {0}

@@ -16,8 +16,10 @@ use Rattle.fields.specs.Value.{valueOf}
 use Rattle.fields.specs.Look.{lookOf, numberOf}
 use Rattle.fields.specs.declared.Look.the-variants as look
 use Rattle.decoding_spec.specs.State.{counted, closedBy}
-use Rattle.decoding_spec.specs.Tree.{Node, Nodes, built, numbered, named, none, more}
+use Rattle.decoding_spec.specs.Tree.{Node, Nodes, built, numbered, named, computed, none, more}
 use Rattle.decoding_spec.specs.Walk.{widthOf, startOf, choiceIn}
+use Rattle.decoding_spec.specs.Instruction.{countsOf, expressionValue}
+use Rattle.whole_numbers.specs.declared.Whole.the-variants as whole
 use Rattle.decoding_spec.specs.declared.State.{State}
 
 -- a part of so many bytes from place `at` on: there is a row for it, and its bytes are in the input and not too far
@@ -66,6 +68,13 @@ module _ (d : Description) (input : List ℕ) where
     pub value : v ≡ fieldOf i .first + valueAt i at st
     pub whole : getD (d .names) v noName .length ≡ 0 → ⊥
 
+  -- operand x is expression i, with no bytes and one row
+  pub record ComputedAt (x : Operand) (at : ℕ) (st : State) (i : ℕ) (st′ : State) : Type 0 where
+    pub kind : x .kind ≡ 2
+    pub index : i ≡ x .index
+    pub fits : Fits input at st 0
+    pub state : st′ ≡ counted st
+
   mutual
     -- what table t at a place consists of, in a state: its constructor and that one's operands; its length; and the state behind it
     pub data TableWalk : (t at : ℕ) → State → Node → ℕ → State → Type 0 where
@@ -73,12 +82,13 @@ module _ (d : Description) (input : List ℕ) where
           → OperandsWalk (constructorOf k) at (constructorOf k .operands .count) 0 (replicate (operandsEach + 1) 0) 0 (counted st) f far st′
           → TableWalk t at st (built k at l f) l st″
 
-    -- operand x at a place: its field's value there, by the field's look, or its table
+    -- operand x at a place: its field's value there, by the field's look, its expression, whose value is another relation's, or its table
     pub data OperandWalk : Operand → (at : ℕ) → State → Node → ℕ → State → Type 0 where
       number : {x : Operand} {at i l : ℕ} {v : ℤ} {st st′ : State} → FieldAt x at st i l st′ → NumberAt at st i v
           → OperandWalk x at st (numbered i at v) l st′
       name : {x : Operand} {at i l v : ℕ} {st st′ : State} → FieldAt x at st i l st′ → NameAt at st i v → OperandWalk x at st (named i at v) l st′
-      table : {x : Operand} {at l : ℕ} {n : Node} {st st′ : State} → (x .kind ≡ 0 → ⊥) → TableWalk (x .index) at st n l st′
+      compute : {x : Operand} {at i : ℕ} {v : ℤ} {st st′ : State} → ComputedAt x at st i st′ → OperandWalk x at st (computed i at v) 0 st′
+      table : {x : Operand} {at l : ℕ} {n : Node} {st st′ : State} → (x .kind ≡ 0 → ⊥) → (x .kind ≡ 2 → ⊥) → TableWalk (x .index) at st n l st′
           → OperandWalk x at st n l st′
 
     -- so many operands of constructor k at a place, from operand o on (the first is 0 here), each at anchor + offset; with the ends of
@@ -89,3 +99,17 @@ module _ (d : Description) (input : List ℕ) where
           → OperandWalk (operandOf d k o) (at + startOf ends (operandOf d k o)) st n l st′
           → OperandsWalk k at left (o + 1) (set ends (o + 1) (startOf ends (operandOf d k o) + l)) (max far (startOf ends (operandOf d k o) + l)) st′ f far′ st″
           → OperandsWalk k at (suc left) o ends far st (more n f) far′ st″
+
+-- each computed operand's value is its expression's: here is the instruction's address, and after it that of the next
+module _ (d : Description) (here after : ℕ) where
+  abbrev mutual
+    -- of a constructor whose operands count as these
+    pub HasValues : List ℤ → Node → Type 0
+    HasValues operands (built k s l f) = HasValuesAll (countsOf d f) f
+    HasValues operands (numbered i s v) = Unit {0}
+    HasValues operands (named i s n) = Unit {0}
+    HasValues operands (computed i s v) = expressionValue d here after operands i ≡ whole.Value v
+
+    pub HasValuesAll : List ℤ → Nodes → Type 0
+    HasValuesAll operands none = Unit {0}
+    HasValuesAll operands (more n f) = HasValues operands n × HasValuesAll operands f

@@ -5,10 +5,10 @@ use mathlib.Core.Path.{_≡_, refl}
 use lib.ListN.{length, take}
 use Rattle.lists.specs.Below.{allBelow, anyBelow, firstBelow}
 use Rattle.lists.specs.Tab.{tabFrom}
-use Rattle.format.specs.Layout.{sectionAt, layoutOf, namesFrom, constructorsFrom, operandsFrom, piecesFrom, textFrom}
-use Rattle.format.specs.Description.{Description, fieldsOf, namesOf, constructorsOf, operandsOf, piecesOf, textOf}
-use Rattle.format.specs.Rules.{fieldOk, constructorOk, shapeOk, operandFits, pieceFits, shows, hasTable, operandOk}
-use Rattle.format.specs.Check.{Parsed, formed, parse, checkOf, faultOf, partFault, badField, badName, badConstructor, badOperand, badPiece, badLetter}
+use Rattle.format.specs.Layout.{sectionAt, layoutOf, namesFrom, constructorsFrom, operandsFrom, piecesFrom, textFrom, expressionsFrom}
+use Rattle.format.specs.Description.{Description, fieldsOf, namesOf, constructorsOf, operandsOf, piecesOf, textOf, expressionsOf}
+use Rattle.format.specs.Rules.{fieldOk, constructorOk, shapeOk, operandFits, pieceFits, shows, hasTable, fieldOperand, expressionFits, operandOk}
+use Rattle.format.specs.Check.{Parsed, formed, parse, checkOf, faultOf, partFault, badField, badName, badConstructor, badOperand, badPiece, badLetter, badExpression}
 use Rattle.format.specs.Example.{S}
 
 pub sMeaning : Description
@@ -65,6 +65,7 @@ sMeaning =
           (record { kind = 0; n = 4; offset = 12 }) ∷
           [];
       text = 105 ∷ 110 ∷ 99 ∷ 32 ∷ 114 ∷ 97 ∷ 100 ∷ 100 ∷ 32 ∷ 114 ∷ 44 ∷ 32 ∷ 104 ∷ 97 ∷ 108 ∷ 116 ∷ [];
+      expressions = [];
     }
 
 -- "Description S, 216 bytes."
@@ -73,8 +74,8 @@ s-length = refl
 
 -- S is well formed
 pub s-formed : parse S ≡ formed sMeaning
-unfolding parse checkOf layoutOf namesFrom constructorsFrom operandsFrom piecesFrom textFrom sectionAt
-    fieldsOf namesOf constructorsOf operandsOf piecesOf textOf tabFrom allBelow anyBelow firstBelow
-    faultOf partFault badField badName badConstructor badOperand badPiece badLetter
-    fieldOk constructorOk shapeOk operandFits pieceFits shows hasTable operandOk sMeaning
+unfolding parse checkOf layoutOf namesFrom constructorsFrom operandsFrom piecesFrom textFrom expressionsFrom sectionAt
+    fieldsOf namesOf constructorsOf operandsOf piecesOf textOf expressionsOf tabFrom allBelow anyBelow firstBelow
+    faultOf partFault badField badName badConstructor badOperand badPiece badLetter badExpression
+    fieldOk constructorOk shapeOk operandFits pieceFits shows hasTable fieldOperand expressionFits operandOk sMeaning
 s-formed = refl

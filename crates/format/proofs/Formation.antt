@@ -13,8 +13,9 @@ use Rattle.lists.proofs.Bools.{and-left, and-right}
 use Rattle.format.specs.Numbers.{sectionItself, operandsEach, piecesEach}
 use Rattle.format.specs.Layout.{layoutOf}
 use Rattle.format.specs.Description.{Description, description, noField, noName, noConstructor, noOperand, noPiece}
+use Rattle.format.specs.Expression.{noExpression, writesExpression}
 use Rattle.format.specs.Rules.{fieldOk, nameOk, constructorOk, operandOk, pieceOk, letterOk, shapeOk, tableOk, tableAt, minimumOk, valueOk, rangeOk, operandFits, pieceFits}
-use Rattle.format.specs.Check.{allGood, named, faultOf, partFault, judged, checkOf, WellFormed, badField, badName, badConstructor, badOperand, badPiece, badLetter}
+use Rattle.format.specs.Check.{allGood, named, faultOf, partFault, judged, checkOf, WellFormed, badField, badName, badConstructor, badOperand, badPiece, badLetter, badExpression}
 use Rattle.format.specs.declared.Layout.{Layout}
 use Rattle.format.specs.declared.Constructor.{Constructor}
 use Rattle.format.specs.declared.LayoutResult.{LayoutResult}
@@ -28,9 +29,10 @@ pub record RulesHold (d : Description) : Type 0 where
   pub fields : allGood (fieldOk (length (d .names))) noField (d .fields) ≡ true
   pub names : allGood (nameOk (length (d .text))) noName (d .names) ≡ true
   pub constructors : allBelow (length (d .constructors)) (constructorOk d) ≡ true
-  pub operands : allGood (operandOk (d .fields)) noOperand (d .operands) ≡ true
+  pub operands : allGood (operandOk (d .fields) (length (d .expressions))) noOperand (d .operands) ≡ true
   pub pieces : allGood (pieceOk (length (d .text))) noPiece (d .pieces) ≡ true
   pub text : allGood letterOk 0 (d .text) ≡ true
+  pub expressions : allGood writesExpression noExpression (d .expressions) ≡ true
 
 -- a section that is passed over has no faulty record
 passed : (k i n : ℕ) (rest : Checked) (l : Layout) → named k i n rest ≡ Good l → (n ≤ i) × (rest ≡ Good l)
@@ -42,15 +44,16 @@ passed k i n rest l e = go (ltb i n) refl e
 
 -- no fault: the places are handed on, and every record obeys its rules
 unfaulted : (d : Description) (l m : Layout) → faultOf d l ≡ Good m → (l ≡ m) × RulesHold d
-unfolding faultOf partFault badField badName badConstructor badOperand badPiece badLetter
+unfolding faultOf partFault badField badName badConstructor badOperand badPiece badLetter badExpression
 unfaulted d l m e =
     let fields = passed 1 (badField d) (length (d .fields)) _ m e in
     let names = passed 2 (badName d) (length (d .names)) _ m (fields .1) in
     let constructors = passed 3 (badConstructor d) (length (d .constructors)) _ m (names .1) in
     let operands = passed 4 (badOperand d) (length (d .operands)) _ m (constructors .1) in
     let pieces = passed 5 (badPiece d) (length (d .pieces)) _ m (operands .1) in
-    let text = passed 6 (badLetter d) (length (d .text)) _ m (pieces .1) in (
-      cc (text .1),
+    let text = passed 6 (badLetter d) (length (d .text)) _ m (pieces .1) in
+    let expressions = passed 7 (badExpression d) (length (d .expressions)) _ m (text .1) in (
+      cc (expressions .1),
       record {
         fields = first-all _ _ (fields .0);
         names = first-all _ _ (names .0);
@@ -58,6 +61,7 @@ unfaulted d l m e =
         operands = first-all _ _ (operands .0);
         pieces = first-all _ _ (pieces .0);
         text = first-all _ _ (text .0);
+        expressions = first-all _ _ (expressions .0);
       },
     )
 

@@ -7,9 +7,10 @@ use native.Mathlib.Nat.{mul-add, mul-one}
 use lib.ListN.{length, getD}
 use Rattle.lists.proofs.Tab.{tab-length, tab-at}
 use Rattle.format.specs.Bytes.{byteAt}
-use Rattle.format.specs.Numbers.{fieldBytes, nameBytes, constructorBytes, operandBytes, pieceBytes, letterBytes}
+use Rattle.format.specs.Numbers.{fieldBytes, nameBytes, constructorBytes, operandBytes, pieceBytes, letterBytes, expressionBytes}
 use Rattle.format.specs.Record.{fieldAt, nameAt, constructorAt, operandAt, pieceAt}
-use Rattle.format.specs.Description.{recordsOf, fieldsOf, namesOf, constructorsOf, operandsOf, piecesOf, textOf, noConstructor}
+use Rattle.format.specs.Expression.{Expression, expressionAt, noExpression}
+use Rattle.format.specs.Description.{recordsOf, fieldsOf, namesOf, constructorsOf, operandsOf, piecesOf, textOf, expressionsOf, noConstructor}
 use Rattle.format.specs.declared.Layout.{Layout}
 use Rattle.format.specs.declared.Section.{Section}
 
@@ -48,6 +49,15 @@ module _ (b : List ℕ) (l : Layout) where
   pub text-length : length (textOf b l) ≡ l .text .count
   unfolding textOf
   text-length = records-length byteAt letterBytes b (l .text)
+
+  pub expressions-length : length (expressionsOf b l) ≡ l .expressions .count
+  unfolding expressionsOf
+  expressions-length = records-length expressionAt expressionBytes b (l .expressions)
+
+  pub expression-here : (i : ℕ) → i < l .expressions .count
+      → getD (expressionsOf b l) i noExpression ≡ expressionAt b (l .expressions .start + expressionBytes * i)
+  unfolding expressionsOf
+  expression-here i h = record-here expressionAt expressionBytes b (l .expressions) i noExpression h
 
   pub constructor-here : (i : ℕ) → i < l .constructors .count
       → getD (constructorsOf b l) i noConstructor ≡ constructorAt b (l .constructors .start + constructorBytes * i)

@@ -11,7 +11,7 @@ use lib.ListN.{length}
 use Rattle.lists.proofs.Bools.{and4}
 use Rattle.format.specs.Bytes.{u16At}
 use Rattle.format.specs.Numbers.{countBytes}
-use Rattle.format.specs.Layout.{SectionsInBounds, inside, next, endOr, sectionAt, layoutOf, namesFrom, constructorsFrom, operandsFrom, piecesFrom, textFrom}
+use Rattle.format.specs.Layout.{SectionsInBounds, inside, next, endOr, sectionAt, layoutOf, namesFrom, constructorsFrom, operandsFrom, piecesFrom, textFrom, expressionsFrom}
 use Rattle.format.specs.declared.Section.{Section}
 use Rattle.format.specs.declared.Cursor.{Cursor}
 use Rattle.format.specs.declared.Layout.{Layout}
@@ -77,6 +77,24 @@ end-keeps b rest k l m at r e = go (eqb at (length b)) e
     go true p = let s : l ≡ m = cc in rw s at r
     go false p = k l m at r p
 
+expressions-keeps : (b : List ℕ) → Keeps b (expressionsFrom b)
+unfolding expressionsFrom Keeps
+expressions-keeps b l m at r e =
+    let expressions = passed b 7 _ _ _ _ _ m e in
+    end-keeps b (λ l at. Fault 7) (fault-keeps b 7) _ m (expressions .at)
+    (record {
+      fields = r .fields;
+      names = r .names;
+      constructors = r .constructors;
+      operands = r .operands;
+      pieces = r .pieces;
+      text = r .text;
+      expressions = expressions .placed .fits;
+      some = r .some;
+      few = r .few;
+    })
+    (expressions .rest)
+
 -- the places that the counts give
 pub laid-room : (b : List ℕ) (l : Layout) → layoutOf b ≡ At l → SectionsInBounds b l
 unfolding layoutOf namesFrom constructorsFrom operandsFrom piecesFrom textFrom Keeps
@@ -87,7 +105,7 @@ laid-room b l e =
     let operands = passed b 4 _ _ _ _ _ l (constructors .rest) in
     let pieces = passed b 5 _ _ _ _ _ l (operands .rest) in
     let text = passed b 6 _ _ _ _ _ l (pieces .rest) in
-    end-keeps b (λ l at. Fault 6) (fault-keeps b 6) _ l (text .at)
+    end-keeps b (expressionsFrom b) (expressions-keeps b) _ l (text .at)
     (record {
       fields = fields .placed .fits;
       names = names .placed .fits;
@@ -95,6 +113,7 @@ laid-room b l e =
       operands = operands .placed .fits;
       pieces = pieces .placed .fits;
       text = text .placed .fits;
+      expressions = omega arith;
       some = constructors .placed .enough;
       few = constructors .placed .few;
     })

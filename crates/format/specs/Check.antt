@@ -9,6 +9,7 @@ use Rattle.lists.specs.Below.{allBelow, firstBelow}
 use Rattle.format.specs.Numbers.{sectionItself}
 use Rattle.format.specs.Layout.{layoutOf, SectionsInBounds}
 use Rattle.format.specs.Description.{Description, description, noField, noName, noOperand, noPiece}
+use Rattle.format.specs.Expression.{noExpression, writesExpression}
 use Rattle.format.specs.Rules.{fieldOk, nameOk, constructorOk, operandOk, pieceOk, letterOk}
 use Rattle.format.specs.declared.Layout.{Layout}
 use Rattle.format.specs.declared.LayoutResult.{LayoutResult}
@@ -33,7 +34,7 @@ unfoldable pub badConstructor : Description → ℕ
 badConstructor d = firstBelow (length (d .constructors)) (constructorOk d)
 
 unfoldable pub badOperand : Description → ℕ
-badOperand d = firstBad (operandOk (d .fields)) noOperand (d .operands)
+badOperand d = firstBad (operandOk (d .fields) (length (d .expressions))) noOperand (d .operands)
 
 unfoldable pub badPiece : Description → ℕ
 badPiece d = firstBad (pieceOk (length (d .text))) noPiece (d .pieces)
@@ -41,16 +42,20 @@ badPiece d = firstBad (pieceOk (length (d .text))) noPiece (d .pieces)
 unfoldable pub badLetter : Description → ℕ
 badLetter d = firstBad letterOk 0 (d .text)
 
+unfoldable pub badExpression : Description → ℕ
+badExpression d = firstBad writesExpression noExpression (d .expressions)
+
 -- record i of section k is at fault if it is one of the section's n; else what comes after it is judged
 abbrev pub named : ℕ → ℕ → ℕ → Checked → Checked
 named k i n rest = cond (ltb i n) (Fault k i) rest
 
--- the faults of the operands, pieces and text
+-- the faults of the operands, pieces, text and expressions
 unfoldable pub partFault : Description → Layout → Checked
 partFault d l =
     named 4 (badOperand d) (length (d .operands))
     (named 5 (badPiece d) (length (d .pieces))
-    (named 6 (badLetter d) (length (d .text)) (Good l)))
+    (named 6 (badLetter d) (length (d .text))
+    (named 7 (badExpression d) (length (d .expressions)) (Good l))))
 
 -- "Then the first faulty record in file order is named. A description without a fault is well formed."
 unfoldable pub faultOf : Description → Layout → Checked

@@ -3,8 +3,9 @@ use Prim.Native.Nat.{ℕ, _+_, _*_}
 use mathlib.Core.List.{List, []}
 use Rattle.lists.specs.Tab.{tab}
 use Rattle.format.specs.Bytes.{byteAt}
-use Rattle.format.specs.Numbers.{fieldBytes, nameBytes, constructorBytes, operandBytes, pieceBytes, letterBytes}
+use Rattle.format.specs.Numbers.{fieldBytes, nameBytes, constructorBytes, operandBytes, pieceBytes, letterBytes, expressionBytes}
 use Rattle.format.specs.Record.{fieldAt, nameAt, constructorAt, operandAt, pieceAt}
+use Rattle.format.specs.Expression.{Expression, expressionAt}
 use Rattle.format.specs.declared.Field.{Field}
 use Rattle.format.specs.declared.Name.{Name}
 use Rattle.format.specs.declared.Constructor.{Constructor}
@@ -20,6 +21,7 @@ pub record Description : Type 0 where
   pub operands : List Operand
   pub pieces : List Piece
   pub text : List ℕ
+  pub expressions : List Expression
 
 -- a section's records, each as the reader reads it at its place
 abbrev pub recordsOf : {A : Type 0} → (List ℕ → ℕ → A) → ℕ → List ℕ → Section → List A
@@ -43,6 +45,9 @@ piecesOf b l = recordsOf pieceAt pieceBytes b (l .pieces)
 unfoldable pub textOf : List ℕ → Layout → List ℕ
 textOf b l = recordsOf byteAt letterBytes b (l .text)
 
+unfoldable pub expressionsOf : List ℕ → Layout → List Expression
+expressionsOf b l = recordsOf expressionAt expressionBytes b (l .expressions)
+
 -- the description that bytes with these places are
 abbrev pub description : List ℕ → Layout → Description
 description b l =
@@ -53,6 +58,7 @@ description b l =
       operands = operandsOf b l;
       pieces = piecesOf b l;
       text = textOf b l;
+      expressions = expressionsOf b l;
     }
 
 -- what a list gives past its end; nothing that is judged reads there

@@ -5,7 +5,7 @@ use mathlib.Core.List.{List}
 use lib.Dec.{leb, eqb}
 use lib.ListN.{length}
 use Rattle.format.specs.Bytes.{u16At}
-use Rattle.format.specs.Numbers.{countBytes, mostFields, mostNames, leastConstructors, mostConstructors, mostOperands, mostPieces, mostLetters, fieldBytes, nameBytes, constructorBytes, operandBytes, pieceBytes, letterBytes}
+use Rattle.format.specs.Numbers.{countBytes, mostFields, mostNames, leastConstructors, mostConstructors, mostOperands, mostPieces, mostLetters, mostExpressions, fieldBytes, nameBytes, constructorBytes, operandBytes, pieceBytes, letterBytes, expressionBytes}
 use Rattle.format.specs.declared.Section.{Section}
 use Rattle.format.specs.declared.Layout.{Layout}
 use Rattle.format.specs.declared.Counted.{Counted}
@@ -38,38 +38,46 @@ endOr b rest l at = cond (eqb at (length b)) (At l) (rest l at)
 -- a layout with one section put in
 abbrev pub putFields : Layout → Section → Layout
 putFields l s =
-    record { fields = s; names = l .names; constructors = l .constructors; operands = l .operands; pieces = l .pieces; text = l .text }
+    record { fields = s; names = l .names; constructors = l .constructors; operands = l .operands; pieces = l .pieces; text = l .text; expressions = l .expressions }
 
 abbrev pub putNames : Layout → Section → Layout
 putNames l s =
-    record { fields = l .fields; names = s; constructors = l .constructors; operands = l .operands; pieces = l .pieces; text = l .text }
+    record { fields = l .fields; names = s; constructors = l .constructors; operands = l .operands; pieces = l .pieces; text = l .text; expressions = l .expressions }
 
 abbrev pub putConstructors : Layout → Section → Layout
 putConstructors l s =
-    record { fields = l .fields; names = l .names; constructors = s; operands = l .operands; pieces = l .pieces; text = l .text }
+    record { fields = l .fields; names = l .names; constructors = s; operands = l .operands; pieces = l .pieces; text = l .text; expressions = l .expressions }
 
 abbrev pub putOperands : Layout → Section → Layout
 putOperands l s =
-    record { fields = l .fields; names = l .names; constructors = l .constructors; operands = s; pieces = l .pieces; text = l .text }
+    record { fields = l .fields; names = l .names; constructors = l .constructors; operands = s; pieces = l .pieces; text = l .text; expressions = l .expressions }
 
 abbrev pub putPieces : Layout → Section → Layout
 putPieces l s =
-    record { fields = l .fields; names = l .names; constructors = l .constructors; operands = l .operands; pieces = s; text = l .text }
+    record { fields = l .fields; names = l .names; constructors = l .constructors; operands = l .operands; pieces = s; text = l .text; expressions = l .expressions }
 
 abbrev pub putText : Layout → Section → Layout
 putText l s =
-    record { fields = l .fields; names = l .names; constructors = l .constructors; operands = l .operands; pieces = l .pieces; text = s }
+    record { fields = l .fields; names = l .names; constructors = l .constructors; operands = l .operands; pieces = l .pieces; text = s; expressions = l .expressions }
 
--- a section without records, and a layout of six such
+abbrev pub putExpressions : Layout → Section → Layout
+putExpressions l s =
+    record { fields = l .fields; names = l .names; constructors = l .constructors; operands = l .operands; pieces = l .pieces; text = l .text; expressions = s }
+
+-- a section without records, and a layout of such alone
 abbrev pub empty : Section
 empty = record { start = 0; count = 0 }
 
 abbrev pub unlaid : Layout
-unlaid = record { fields = empty; names = empty; constructors = empty; operands = empty; pieces = empty; text = empty }
+unlaid = record { fields = empty; names = empty; constructors = empty; operands = empty; pieces = empty; text = empty; expressions = empty }
 
--- "Six sections stand in a fixed order, each after its count (two bytes), and nothing follows", "bytes left over are section 6's"
+-- "Six sections stand in a fixed order, each after its count (two bytes)"; "a seventh section, after its count", "A description may end
+-- after six sections", "bytes left over are the last section's"
+unfoldable pub expressionsFrom : List ℕ → Layout → ℕ → LayoutResult
+expressionsFrom b = section b 7 0 mostExpressions expressionBytes putExpressions (endOr b (λ l at. Fault 7))
+
 unfoldable pub textFrom : List ℕ → Layout → ℕ → LayoutResult
-textFrom b = section b 6 0 mostLetters letterBytes putText (endOr b (λ l at. Fault 6))
+textFrom b = section b 6 0 mostLetters letterBytes putText (endOr b (expressionsFrom b))
 
 unfoldable pub piecesFrom : List ℕ → Layout → ℕ → LayoutResult
 piecesFrom b = section b 5 0 mostPieces pieceBytes putPieces (textFrom b)
@@ -98,5 +106,6 @@ pub record SectionsInBounds (b : List ℕ) (l : Layout) : Type 0 where
   pub operands : inside b operandBytes (l .operands)
   pub pieces : inside b pieceBytes (l .pieces)
   pub text : inside b letterBytes (l .text)
+  pub expressions : inside b expressionBytes (l .expressions)
   pub some : 1 ≤ l .constructors .count
   pub few : l .constructors .count ≤ mostConstructors

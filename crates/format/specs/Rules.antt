@@ -8,6 +8,7 @@ use lib.ListN.{length, getD}
 use Rattle.lists.specs.Below.{allBelow, anyBelow}
 use Rattle.format.specs.Numbers.{widest, namesLook, namesBits, firstLetter, lastLetter, tables, longest, operandsEach, piecesEach, farthest}
 use Rattle.format.specs.Description.{Description, noField, noConstructor, noOperand, noPiece}
+use Rattle.format.specs.Expression.{Expression, noExpression, writesExpression, namesOnly}
 use Rattle.format.specs.declared.Field.{Field}
 use Rattle.format.specs.declared.Name.{Name}
 use Rattle.format.specs.declared.Pattern.{Pattern}
@@ -85,9 +86,20 @@ tableFits d c x = not (eqb (x .kind) 1) || (ltb (x .index) (c .table) && hasTabl
 abbrev pub anchorFits : ℕ → Operand → Bool
 anchorFits o x = ltb (x .anchor) (o + 1)
 
+-- operand n of the constructor, the first is 1, is a field operand
+unfoldable pub fieldOperand : Description → Constructor → ℕ → Bool
+fieldOperand d c n = leb 1 n && leb n (c .operands .count) && eqb (operandOf d c (n - 1) .kind) 0
+
+-- "One that names an operand which is no field operand of its user is the constructor's fault"; what writes no expression names none
+unfoldable pub expressionFits : Description → Constructor → Operand → Bool
+expressionFits d c x =
+    let e = getD (d .expressions) (x .index) noExpression in
+    not (eqb (x .kind) 2) || not (writesExpression e) || namesOnly (fieldOperand d c) e
+
 -- "Faults that depend on the user (a table operand's number, an anchor's j ..) belong to the constructor"
 unfoldable pub operandFits : Description → Constructor → ℕ → Bool
-operandFits d c o = anchorFits o (operandOf d c o) && tableFits d c (operandOf d c o)
+operandFits d c o =
+    anchorFits o (operandOf d c o) && tableFits d c (operandOf d c o) && expressionFits d c (operandOf d c o)
 
 abbrev pub pieceOf : Description → Constructor → ℕ → Piece
 pieceOf d c q = getD (d .pieces) (c .pieces .first + q) noPiece
@@ -121,9 +133,15 @@ fieldFits fields x =
     ltb (x .index) (length fields)
     && (not (eqb (getD fields (x .index) noField .source) 1) || (eqb (x .anchor) 0 && eqb (x .offset) 0))
 
--- "kind 0 a field (its index in section 1), 1 a table", "Offset 0 to 15"
-unfoldable pub operandOk : List Field → Operand → Bool
-operandOk fields x = leb (x .offset) farthest && ((eqb (x .kind) 0 && fieldFits fields x) || eqb (x .kind) 1)
+-- "A third operand kind (2) names one, with anchor and offset 0"
+abbrev pub computedFits : ℕ → Operand → Bool
+computedFits expressions x = ltb (x .index) expressions && eqb (x .anchor) 0 && eqb (x .offset) 0
+
+-- "kind 0 a field (its index in section 1), 1 a table", "Offset 0 to 15"; of so many expressions
+unfoldable pub operandOk : List Field → ℕ → Operand → Bool
+operandOk fields expressions x =
+    leb (x .offset) farthest
+    && ((eqb (x .kind) 0 && fieldFits fields x) || eqb (x .kind) 1 || (eqb (x .kind) 2 && computedFits expressions x))
 
 -- ---- pieces
 

@@ -158,9 +158,10 @@ pub struct Layout {
     pub operands: Section,
     pub pieces: Section,
     pub text: Section,
+    pub expressions: Section,
 }
 
-// The six counts, read: the sections' places, or the section at fault.
+// The counts, read: the sections' places, or the section at fault.
 pub enum LayoutResult {
     At(Layout),
     Fault(usize),

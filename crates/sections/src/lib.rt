@@ -11,26 +11,47 @@ use format::Pattern;
 use format::Piece;
 use format::Section;
 ghost use mathlib.Core.Path.{_≡_};
-ghost use Prim.Native.Nat.{_<_};
+ghost use Prim.Native.Nat.{_+_, _*_, _<_};
 ghost use lib.ListN.{getD};
-ghost use Rattle.format.specs.Layout.{SectionsInBounds, layoutOf, namesFrom, constructorsFrom, operandsFrom, piecesFrom, textFrom};
+ghost use Rattle.format.specs.Layout.{SectionsInBounds, layoutOf, namesFrom, constructorsFrom, operandsFrom, piecesFrom, textFrom, expressionsFrom};
+ghost use Rattle.format.specs.Numbers.{expressionBytes};
 ghost use Rattle.format.specs.Description.{description, fieldsOf, namesOf, constructorsOf, operandsOf, piecesOf, textOf, noField, noName, noConstructor, noOperand, noPiece};
 ghost use Rattle.format.specs.Rules.{tableAt};
 
 // Each of these reads its section's count, puts the section into the layout, and goes on with the sections behind it.
+fn read_expressions(desc: &[u8], layout: Layout, c: Cursor) -> LayoutResult
+    ensures { λ r. ⌜ r ≡ expressionsFrom (now (desc .entry)) layout (c .at) ⌝ }
+{
+    let mut layout = layout;
+    let Counted::Found(expressions, end) = c.count(
+        desc,
+        0,
+        format::EXPRESSIONS,
+        format::EXPRESSION_BYTES,
+    ) else {
+        return LayoutResult::Fault(7);
+    };
+    layout.expressions = expressions;
+    if end.at == desc.len() {
+        LayoutResult::At(layout)
+    } else {
+        LayoutResult::Fault(7)
+    }
+}
+
+// A description may end after the text.
 fn read_text(desc: &[u8], layout: Layout, c: Cursor) -> LayoutResult
     ensures { λ r. ⌜ r ≡ textFrom (now (desc .entry)) layout (c .at) ⌝ }
 {
     let mut layout = layout;
-    let Counted::Found(text, end) = c.count(desc, 0, format::LETTERS, format::LETTER_BYTES) else {
+    let Counted::Found(text, next) = c.count(desc, 0, format::LETTERS, format::LETTER_BYTES) else {
         return LayoutResult::Fault(6);
     };
     layout.text = text;
-    if end.at == desc.len() {
-        LayoutResult::At(layout)
-    } else {
-        LayoutResult::Fault(6)
+    if next.at == desc.len() {
+        return LayoutResult::At(layout);
     }
+    read_expressions(desc, layout, next)
 }
 
 fn read_pieces(desc: &[u8], layout: Layout, c: Cursor) -> LayoutResult
@@ -94,6 +115,7 @@ pub fn read_layout(desc: &[u8]) -> LayoutResult
         operands: empty,
         pieces: empty,
         text: empty,
+        expressions: empty,
     };
     let start = Cursor { at: 0 };
     let Counted::Found(fields, next) = start.count(desc, 0, format::FIELDS, format::FIELD_BYTES)
@@ -190,4 +212,13 @@ pub fn letter_at(desc: &[u8], layout: Layout, i: usize) -> u8
         at: layout.text.start + i,
     };
     c.letter(desc).letter
+}
+
+// Where an expression stands.
+pub fn expression_place(desc: &[u8], layout: Layout, i: usize) -> usize
+    requires { ⌜ SectionsInBounds (now desc) layout ⌝ }
+    requires { ⌜ i < layout .expressions .count ⌝ }
+    ensures { λ r. ⌜ r ≡ layout .expressions .start + expressionBytes * i ⌝ }
+{
+    layout.expressions.start + (format::EXPRESSION_BYTES as usize) * i
 }

@@ -6,13 +6,14 @@ use mathlib.Core.Path.{_≡_, refl, sym, ap, _∙_}
 use native.Mathlib.Omega.{arith}
 use lib.ListN.{length, getD, drop, set, length-set}
 use lib.Seq.{getD-drop, drop-set-lt, getD-set-same, getD-set-other}
-use Rattle.format.specs.Numbers.{tables, mostConstructors}
+use Rattle.format.specs.Numbers.{tables, mostConstructors, expressionBytes}
+use Rattle.format.specs.Expression.{expressionAt, noExpression}
 use Rattle.format.specs.Check.{WellFormed}
 use Rattle.format.specs.Description.{Description, description}
 use Rattle.format.specs.Tables.{tableFirst, tableEnd}
 use Rattle.format.specs.declared.Layout.{Layout}
 use Rattle.format.proofs.Formation.{RulesHold, obeyed}
-use Rattle.format.proofs.Lists.{constructors-length}
+use Rattle.format.proofs.Lists.{constructors-length, expressions-length, expression-here}
 use Rattle.format.proofs.Tables.{end-is, first-within}
 use Rattle.tables.specs.Starts.{tableStarts}
 use Rattle.tables.proofs.FirstConstructors.{starts-length, start-at}
@@ -25,7 +26,7 @@ use Rattle.choosing_spec.specs.Table.{patternFrom}
 use Rattle.choosing_theorems.proofs.Taken.{taken-facts}
 use Rattle.decoding_spec.specs.State.{Setting, withTotal}
 use Rattle.decoding_spec.specs.Walk.{numberedFrom, choiceIn}
-use Rattle.setting.specs.Fixed.{totalPlace, gatheredPlace, startsPlace, flag, startsOf, fixedOf, layoutIn, settingIn, Fixed}
+use Rattle.setting.specs.Fixed.{totalPlace, gatheredPlace, startsPlace, flag, startsOf, fixedOf, layoutIn, expressionStart, settingIn, Fixed}
 use Rattle.setting.specs.Ranges.{RangeOf}
 
 -- each record obeys its rules
@@ -58,7 +59,7 @@ module _ (b a : List ℕ) (n : ℕ) where
 
   layout-for : layoutIn (set a totalPlace n) ≡ layoutIn a
   layout-for =
-      rw (other 0 (λ e. omega arith), other 1 (λ e. omega arith), other 2 (λ e. omega arith), other 3 (λ e. omega arith), other 4 (λ e. omega arith), other 5 (λ e. omega arith), other 6 (λ e. omega arith), other 7 (λ e. omega arith), other 8 (λ e. omega arith), other 9 (λ e. omega arith), other 10 (λ e. omega arith), other 11 (λ e. omega arith))
+      rw (other 0 (λ e. omega arith), other 1 (λ e. omega arith), other 2 (λ e. omega arith), other 3 (λ e. omega arith), other 4 (λ e. omega arith), other 5 (λ e. omega arith), other 6 (λ e. omega arith), other 7 (λ e. omega arith), other 8 (λ e. omega arith), other 9 (λ e. omega arith), other 10 (λ e. omega arith), other 11 (λ e. omega arith), other 12 (λ e. omega arith), other 13 (λ e. omega arith))
 
   pub fixed-for : Fixed b a → Fixed b (set a totalPlace n)
   fixed-for f =
@@ -104,3 +105,15 @@ module _ (d : Description) (o : RulesHold d) (t : ℕ) (r : Table) (range : Rang
 pub total-in : (b a : List ℕ) → settingIn b a .total ≡ getD a totalPlace 0
 unfolding settingIn
 total-in b a = refl
+
+-- the expression that stands there
+pub expression-in : (b a : List ℕ) (i : ℕ) → i < length (settingIn b a .description .expressions)
+    → getD (settingIn b a .description .expressions) i noExpression ≡ expressionAt b (expressionStart a i)
+unfolding settingIn
+expression-in b a i h = expression-here b (layoutIn a) i (rw expressions-length at h)
+
+-- it lies inside the bytes
+pub expression-inside : (b a : List ℕ) (i : ℕ) → Fixed b a → i < length (settingIn b a .description .expressions)
+    → expressionStart a i + expressionBytes ≤ length b
+unfolding settingIn
+expression-inside b a i f h = let e : i < layoutIn a .expressions .count = rw expressions-length at h in omega (arith, f .formed .room .expressions)

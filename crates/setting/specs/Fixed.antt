@@ -1,11 +1,11 @@
 -- What is fixed along a walk, as one list of numbers: the sections' places and counts, the input's length, whether the tables' first
 -- constructors were gathered, and these.
-use Prim.Native.Nat.{ℕ, _+_, _<_}
+use Prim.Native.Nat.{ℕ, _+_, _*_, _<_}
 use mathlib.Core.Bool.{Bool, true, false}
 use mathlib.Core.List.{List, [], _∷_, _++_}
 use mathlib.Core.Path.{_≡_}
 use lib.ListN.{length, getD, drop, replicate}
-use Rattle.format.specs.Numbers.{tables}
+use Rattle.format.specs.Numbers.{tables, expressionBytes}
 use Rattle.format.specs.Check.{WellFormed}
 use Rattle.format.specs.Description.{Description, description}
 use Rattle.format.specs.declared.Section.{Section}
@@ -18,13 +18,13 @@ sectionNumbers s rest = s .start ∷ s .count ∷ rest
 
 -- where the input's length stands, whether the first constructors were gathered, and where these start
 abbrev pub totalPlace : ℕ
-totalPlace = 12
+totalPlace = 14
 
 abbrev pub gatheredPlace : ℕ
-gatheredPlace = 13
+gatheredPlace = 15
 
 abbrev pub startsPlace : ℕ
-startsPlace = 14
+startsPlace = 16
 
 abbrev pub flag : Bool → ℕ
 flag true = 1
@@ -42,7 +42,8 @@ fixedOf d l gather =
     (sectionNumbers (l .names)
     (sectionNumbers (l .constructors)
     (sectionNumbers (l .operands)
-    (sectionNumbers (l .pieces) (sectionNumbers (l .text) (0 ∷ flag gather ∷ startsOf d gather))))))
+    (sectionNumbers (l .pieces)
+    (sectionNumbers (l .text) (sectionNumbers (l .expressions) (0 ∷ flag gather ∷ startsOf d gather)))))))
 
 -- read back
 abbrev pub sectionIn : List ℕ → ℕ → Section
@@ -57,7 +58,12 @@ layoutIn a =
       operands = sectionIn a 6;
       pieces = sectionIn a 8;
       text = sectionIn a 10;
+      expressions = sectionIn a 12;
     }
+
+-- where expression i stands
+abbrev pub expressionStart : List ℕ → ℕ → ℕ
+expressionStart a i = layoutIn a .expressions .start + expressionBytes * i
 
 -- the setting that bytes b as the description and these numbers are
 unfoldable pub settingIn : List ℕ → List ℕ → Setting

@@ -18,17 +18,20 @@ ghost use Rattle.format.specs.Description.{description, noField, noName, noCons
 ghost use Rattle.format.specs.Tables.{rootOf};
 ghost use Rattle.decoding_spec.specs.Walk.{choiceIn};
 ghost use mathlib.Core.Bool.{true};
-ghost use Rattle.setting.specs.Fixed.{startsOf, fixedOf, layoutIn, settingIn, Fixed, startsPlace};
+ghost use Rattle.setting.specs.Fixed.{expressionStart, startsOf, fixedOf, layoutIn, settingIn, Fixed, startsPlace};
 ghost use Rattle.setting.specs.Ranges.{RangeOf};
 
 const TEXT_START: usize = 10;
 
+// Where the number of expressions stands.
+pub const EXPRESSIONS: usize = 13;
+
 // Where the input's length stands, whether the tables' first constructors were gathered, and where these start.
-pub const TOTAL: usize = 12;
+pub const TOTAL: usize = 14;
 
-const GATHERED: usize = 13;
+const GATHERED: usize = 15;
 
-const STARTS: usize = 14;
+const STARTS: usize = 16;
 
 pub const FIXED: usize = STARTS + tables::STARTS;
 
@@ -59,6 +62,10 @@ pub fn layout_of(fixed: &[usize; FIXED]) -> Layout
         start: fixed[10],
         count: fixed[11],
     };
+    let expressions = Section {
+        start: fixed[12],
+        count: fixed[13],
+    };
     Layout {
         fields,
         names,
@@ -66,6 +73,7 @@ pub fn layout_of(fixed: &[usize; FIXED]) -> Layout
         operands,
         pieces,
         text,
+        expressions,
     }
 }
 
@@ -102,6 +110,8 @@ pub fn fill(desc: &[u8], layout: Layout, gather: bool) -> [usize; FIXED]
     fixed[9] = layout.pieces.count;
     fixed[10] = layout.text.start;
     fixed[11] = layout.text.count;
+    fixed[12] = layout.expressions.start;
+    fixed[13] = layout.expressions.count;
     if gather {
         fixed[GATHERED] = 1;
         return with_starts(desc, layout, fixed);
@@ -142,6 +152,14 @@ pub fn piece(desc: &[u8], fixed: &[usize; FIXED], i: usize) -> Piece
     ensures { λ r. ⌜ r ≡ getD (settingIn (now (desc .entry)) (now (fixed .entry)) .description .pieces) i noPiece ⌝ }
 {
     sections::piece_at(desc, layout_of(fixed), i)
+}
+
+// Where an expression stands.
+pub fn expression_place(desc: &[u8], fixed: &[usize; FIXED], i: usize) -> usize
+    requires { ⌜ Fixed (now desc) (now fixed) × (i < length (settingIn (now desc) (now fixed) .description .expressions)) ⌝ }
+    ensures { λ r. ⌜ r ≡ expressionStart (now (fixed .entry)) i ⌝ }
+{
+    sections::expression_place(desc, layout_of(fixed), i)
 }
 
 pub fn root(desc: &[u8], fixed: &[usize; FIXED]) -> u8

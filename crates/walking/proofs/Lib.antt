@@ -4,4 +4,3 @@ pub mod Steps
 pub mod Turns
 pub mod Readiness
 pub mod Places
-pub mod Instructions

@@ -8,13 +8,13 @@ use lib.ListN.{length, take, drop, set, replicate, length-drop}
 use Rattle.format.specs.declared.Layout.{Layout}
 use Rattle.decoding_spec.specs.State.{Setting, withTotal}
 use Rattle.decoding_spec.specs.Tree.{Node}
-use Rattle.decoding_spec.specs.Walk.{Result, done, refused, instructionFrom, instructionOf}
+use Rattle.decoding_spec.specs.Walk.{Result, done, refused, walkedFrom, walkedOf}
 use Rattle.decoding_spec.specs.declared.State.{State}
 use Rattle.decoding_spec.specs.declared.Refusal.{Refusal}
 use Rattle.setting.specs.Fixed.{Fixed, settingIn, totalPlace}
 use Rattle.setting.proofs.Laws.{fixed-for, setting-for}
 use Rattle.walking.specs.Scratch.{scratchLength, sizedOf, written}
-use Rattle.walking.specs.Walks.{WalksTo, RootWalks, answerOf, instructionAs, resultAt, toldLength}
+use Rattle.walking.specs.Walks.{WalksTo, RootWalks, answerOf, instructionAs, walkedAt, toldLength}
 use Rattle.walking.specs.declared.Walked.{Walked}
 use Rattle.walking.specs.declared.Walked.the-variants.{Done, Refused}
 use Rattle.walking.specs.declared.Instruction.{Instruction}
@@ -31,23 +31,23 @@ module _ (b a s : List ℕ) (at c : ℕ) (long : totalPlace < length a) where
   pub root-ready : Fixed b a → Fixed b (toldLength a s at) × (length (take (length s - at) (drop at s)) ≡ settingIn b (toldLength a s at) .total)
   root-ready f = (fixed-for b a (length s - at) f, rw (part, told) (length-drop at s))
 
-  here : instructionFrom (settingIn b (toldLength a s at)) c (take (length s - at) (drop at s)) ≡ resultAt b a s at c
-  unfolding resultAt instructionOf
-  here = rw (told, part) (ap (λ (n : ℕ). instructionFrom (withTotal n (settingIn b a)) c (drop at s)) (sym (length-drop at s)))
+  here : walkedFrom (settingIn b (toldLength a s at)) c (take (length s - at) (drop at s)) ≡ walkedAt b a s at c
+  unfolding walkedAt walkedOf
+  here = rw (told, part) (ap (λ (n : ℕ). walkedFrom (withTotal n (settingIn b a)) c (drop at s)) (sym (length-drop at s)))
 
   module _ (w : Walked) (old new : List ℤ) (walks : RootWalks b (toldLength a s at) c (take (length s - at) (drop at s)) old w new) where
-    walks-here : WalksTo sizedOf (resultAt b a s at c) w 0 0 old new
+    walks-here : WalksTo sizedOf (walkedAt b a s at c) w 0 0 old new
     walks-here = rw here at walks
 
-    pub step-here : w ≡ answerOf (resultAt b a s at c)
+    pub step-here : w ≡ answerOf (walkedAt b a s at c)
     step-here = walks-here .answer
 
-    pub decode-refused : (r : Refusal) → w ≡ Refused r
-        → record { rows = replicate scratchLength (pos 0); walked = Refused r } ≡ instructionAs (resultAt b a s at c)
-    decode-refused r e = rw (was-refused sizedOf 0 0 old new (resultAt b a s at c) w r walks-here e)
+    pub walk-refused : (r : Refusal) → w ≡ Refused r
+        → record { rows = replicate scratchLength (pos 0); walked = Refused r } ≡ instructionAs (walkedAt b a s at c)
+    walk-refused r e = rw (was-refused sizedOf 0 0 old new (walkedAt b a s at c) w r walks-here e)
 
-    pub decode-done : (l : ℕ) (st : State) → w ≡ Done st l → old ≡ replicate scratchLength (pos 0)
-        → record { rows = new; walked = Done st l } ≡ instructionAs (resultAt b a s at c)
-    decode-done l st e z =
-        let d = was-done sizedOf 0 0 old new (resultAt b a s at c) w l st walks-here e in
+    pub walk-done : (l : ℕ) (st : State) → w ≡ Done st l → old ≡ replicate scratchLength (pos 0)
+        → record { rows = new; walked = Done st l } ≡ instructionAs (walkedAt b a s at c)
+    walk-done l st e z =
+        let d = was-done sizedOf 0 0 old new (walkedAt b a s at c) w l st walks-here e in
         rw (d .is) (ap (λ (rows : List ℤ). record { rows = rows; walked = Done st l }) (d .finished .held ∙ ap (written 0 (sizedOf (d .found))) z))

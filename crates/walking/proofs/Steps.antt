@@ -18,8 +18,8 @@ use Rattle.fields.specs.Look.{lookOf, numberOf}
 use Rattle.fields.specs.declared.Look.{Look}
 use Rattle.fields.specs.declared.Look.the-variants as look
 use Rattle.decoding_spec.specs.State.{Setting, counted, closedBy}
-use Rattle.decoding_spec.specs.Tree.{Node, Nodes, built, numbered, named}
-use Rattle.decoding_spec.specs.Walk.{Result, done, refused, andThen, widthOf, shownAs, fieldFrom, closed, closing}
+use Rattle.decoding_spec.specs.Tree.{Node, Nodes, built, numbered, named, computed}
+use Rattle.decoding_spec.specs.Walk.{Result, done, refused, andThen, widthOf, shownAs, fieldFrom, computedFrom, closed, closing}
 use Rattle.decoding_spec.specs.declared.State.{State}
 use Rattle.decoding_spec.specs.declared.Refusal.{Refusal}
 use Rattle.decoding_spec.specs.declared.Refusal.the-variants.{Short, Hole, TooFar, TooManyRows}
@@ -129,6 +129,32 @@ module _ (g : Setting) (f : Field) (i : ℕ) (s : List ℕ) (p : ℕ) (st : Stat
           → fieldFrom g f i s p st ≡ shownAs (g .description) f i p (valueOf f s (st .context)) (lookOf (f .look)) (counted st)
       unfolding fieldFrom
       field-shown h = rw (lt-leb mostRows (st .used) u, rw e at near, le-ltb (g .total) (p + widthOf f) (rw e at h), fieldFrom)
+
+-- a computed operand: "7, 6, 2"
+module _ (g : Setting) (i p : ℕ) (st : State) (old new : List ℤ) where
+  abbrev Computes : Walked → Type 0
+  Computes r = WalksTo sizedOf (computedFrom g i p st) r p (st .used) old new
+
+  pub computed-full : mostRows ≤ st .used → Computes (Refused TooManyRows)
+  unfolding computedFrom
+  computed-full h = refuses _ _ _ _ _ _ _ (rw (le-leb mostRows (st .used) h, computedFrom))
+
+  module _ (u : st .used < mostRows) where
+    pub computed-far : longest < p → Computes (Refused (TooFar p))
+    unfolding computedFrom
+    computed-far h = refuses _ _ _ _ _ _ _ (rw (lt-leb mostRows (st .used) u, lt-ltb longest p h, computedFrom))
+
+    module _ (near : p ≤ longest) where
+      pub computed-short : g .total < p → Computes (Refused (Short p))
+      unfolding computedFrom
+      computed-short h = refuses _ _ _ _ _ _ _ (rw (lt-leb mostRows (st .used) u, le-ltb longest p near, lt-ltb (g .total) p h, computedFrom))
+
+      pub computed-put : p ≤ g .total → new ≡ written (st .used) (sized 3 i p (pos 0) 1 ∷ []) old → Computes (Done (counted st) 0)
+      unfolding computedFrom sizedOf
+      computed-put h n =
+          finishes sizedOf (computedFrom g i p st) p (st .used) old new (computed i p (pos 0)) 0 (counted st)
+          (rw (lt-leb mostRows (st .used) u, le-ltb longest p near, le-ltb (g .total) p h, computedFrom))
+          (one-row sizedOf _ _ 0 st p old new refl u (omega arith) n)
 
 -- after a constructor's operands: "6, 2"
 module _ (total n minimum at used : ℕ) (walked : Walked) (mid new : List ℤ) where

@@ -17,7 +17,7 @@ use Rattle.choosing_spec.specs.declared.Choice.{Choice}
 use Rattle.choosing_spec.specs.declared.Choice.the-variants as choice
 use Rattle.decoding_spec.specs.State.{Setting, starting, counted}
 use Rattle.decoding_spec.specs.Tree.{Node, Nodes, none, more}
-use Rattle.decoding_spec.specs.Walk.{Result, done, refused, andThen, choiceIn, startOf, closing, fieldFrom, operandFrom, operandsFrom, constructorFrom, taking, tableFrom, walkFrom, Walker, rejectEmpty, instructionFrom}
+use Rattle.decoding_spec.specs.Walk.{Result, done, refused, andThen, choiceIn, startOf, closing, fieldFrom, computedFrom, operandFrom, operandsFrom, constructorFrom, taking, tableFrom, walkFrom, Walker, rejectEmpty, walkedFrom}
 use Rattle.decoding_spec.specs.declared.State.{State}
 use Rattle.decoding_spec.specs.declared.Refusal.{Refusal}
 use Rattle.decoding_spec.specs.declared.Refusal.the-variants.{TooFar, TooManyRows, RootLengthZero}
@@ -181,11 +181,17 @@ module _ (g : Setting) (x : Operand) (s : List ℕ) (at start from : ℕ) (st : 
   unfolding operandFrom
   operand-field z h = record { to = λ depth k. rw (eq-eqb (x .kind) 0 z) (rw (part-from s start from e) at h) }
 
-  pub operand-table : (x .kind ≡ 0 → ⊥)
+  pub operand-computed : (x .kind ≡ 0 → ⊥) → x .kind ≡ 2
+      → WalksTo sizedOf (computedFrom g (x .index) (at + start) st) r (at + start) (st .used) old new
+      → Walks sizedOf (λ depth. operandFrom g (walkFrom g depth) x s at start st) r (at + start) (st .used) (st .used) old new
+  unfolding operandFrom
+  operand-computed z y h = record { to = λ depth k. rw (ne-eqb (x .kind) 0 z, eq-eqb (x .kind) 2 y) h }
+
+  pub operand-table : (x .kind ≡ 0 → ⊥) → (x .kind ≡ 2 → ⊥)
       → Walks sizedOf (λ depth. walkFrom g depth (x .index) (take (length s - from) (drop from s)) (at + start) st) r (at + start) (st .used) (st .used) old new
       → Walks sizedOf (λ depth. operandFrom g (walkFrom g depth) x s at start st) r (at + start) (st .used) (st .used) old new
   unfolding operandFrom
-  operand-table z h = record { to = λ depth k. rw (ne-eqb (x .kind) 0 z) (rw (part-from s start from e) at (h .to depth k)) }
+  operand-table z y h = record { to = λ depth k. rw (ne-eqb (x .kind) 0 z, ne-eqb (x .kind) 2 y) (rw (part-from s start from e) at (h .to depth k)) }
 
 -- a constructor and its operands
 pub constructor-closes : (g : Setting) (n : ℕ) (k k′ : Constructor) (s : List ℕ) (at : ℕ) (st st′ : State) (minimum total : ℕ) (walked r : Walked)
@@ -248,18 +254,18 @@ module _ (g : Setting) (c : ℕ) (s : List ℕ) (t : ℕ) (e : t ≡ rootOf (g .
   root : WalksTo sizedOf (walkFrom g (suc mostRows) (rootOf (g .description)) s 0 (starting c)) w 0 0 old new
   root = rw e at (walks .to (suc mostRows) (omega arith))
 
-  pub root-refused : (r : Refusal) → w ≡ Refused r → WalksTo sizedOf (instructionFrom g c s) (Refused r) 0 0 old new
-  unfolding instructionFrom
+  pub root-refused : (r : Refusal) → w ≡ Refused r → WalksTo sizedOf (walkedFrom g c s) (Refused r) 0 0 old new
+  unfolding walkedFrom
   root-refused r q = refuses _ _ _ _ _ _ _ (ap rejectEmpty (was-refused sizedOf 0 0 old new _ w r root q))
 
   module _ (l : ℕ) (st : State) (q : w ≡ Done st l) where
     was : WasDone sizedOf (walkFrom g (suc mostRows) (rootOf (g .description)) s 0 (starting c)) 0 0 old new l st
     was = was-done sizedOf 0 0 old new _ w l st root q
 
-    pub root-empty : l ≡ 0 → WalksTo sizedOf (instructionFrom g c s) (Refused RootLengthZero) 0 0 old new
-    unfolding instructionFrom
+    pub root-empty : l ≡ 0 → WalksTo sizedOf (walkedFrom g c s) (Refused RootLengthZero) 0 0 old new
+    unfolding walkedFrom
     root-empty z = refuses _ _ _ _ _ _ _ (ap rejectEmpty (was .is) ∙ rw (eq-eqb l 0 z))
 
-    pub root-done : (l ≡ 0 → ⊥) → WalksTo sizedOf (instructionFrom g c s) (Done st l) 0 0 old new
-    unfolding instructionFrom
+    pub root-done : (l ≡ 0 → ⊥) → WalksTo sizedOf (walkedFrom g c s) (Done st l) 0 0 old new
+    unfolding walkedFrom
     root-done z = finishes sizedOf _ 0 0 old new (was .found) l st (ap rejectEmpty (was .is) ∙ rw (ne-eqb l 0 z)) (was .finished)

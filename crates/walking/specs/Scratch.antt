@@ -6,7 +6,7 @@ use lib.Dec.{eqb}
 use lib.IntN.{ℤ, pos}
 use lib.ListN.{length, take, drop}
 use Rattle.format.specs.Numbers.{mostRows}
-use Rattle.decoding_spec.specs.Tree.{Row, Node, Nodes, built, numbered, named, none, more}
+use Rattle.decoding_spec.specs.Tree.{Row, Node, Nodes, built, numbered, named, computed, none, more}
 
 abbrev pub scratchNumbers : ℕ
 scratchNumbers = 5
@@ -27,6 +27,7 @@ unfoldable mutual
   sizedOf (built k s l f) = sized 0 k s (pos l) (suc (length (sizedOfAll f))) ∷ sizedOfAll f
   sizedOf (numbered i s v) = sized 1 i s v 1 ∷ []
   sizedOf (named i s n) = sized 2 i s (pos n) 1 ∷ []
+  sizedOf (computed i s v) = sized 3 i s v 1 ∷ []
 
   pub sizedOfAll : Nodes → List SizedRow
   sizedOfAll none = []

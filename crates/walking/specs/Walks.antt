@@ -15,7 +15,7 @@ use Rattle.fields.specs.Look.{lookOf, numberOf}
 use Rattle.fields.specs.declared.Look.the-variants as look
 use Rattle.decoding_spec.specs.State.{Setting, counted}
 use Rattle.decoding_spec.specs.Tree.{Node, Nodes}
-use Rattle.decoding_spec.specs.Walk.{Result, done, refused, widthOf, closing, shownAs, fieldFrom, operandFrom, operandsFrom, constructorFrom, walkFrom, instructionFrom, instructionOf}
+use Rattle.decoding_spec.specs.Walk.{Result, done, refused, widthOf, closing, shownAs, fieldFrom, computedFrom, operandFrom, operandsFrom, constructorFrom, walkFrom, walkedFrom, walkedOf}
 use Rattle.decoding_spec.specs.declared.State.{State}
 use Rattle.format.specs.Rules.{bitsOf}
 use Rattle.decoding_theorems.specs.Usable.{Placed, Usable}
@@ -77,6 +77,11 @@ Closes total n minimum at used walked mid r new =
     (g : Setting) → g .total ≡ total → (result : Result Nodes) (old : List ℤ) → WalksTo sizedOfAll result walked at (used + 1) old mid
     → WalksTo sizedOf (closing g n minimum at result) r at used old new
 
+-- a computed operand, for an input of so many bytes
+abbrev pub ComputedWalks : (total i at : ℕ) → State → List ℤ → Walked → List ℤ → Type 0
+ComputedWalks total i at st old r new =
+    (g : Setting) → g .total ≡ total → WalksTo sizedOf (computedFrom g i at st) r at (st .used) old new
+
 -- a field whose value can be shown
 pub record Showable (g : Setting) (f : Field) (s : List ℕ) (p : ℕ) (st : State) : Type 0 where
   pub readable : Readable f
@@ -115,9 +120,9 @@ module _ (b a s : List ℕ) (at : ℕ) (st : State) (old : List ℤ) (r : Walked
   abbrev pub TableWalks : ℕ → Type 0
   TableWalks t = Walks sizedOf (λ depth. walkFrom (settingIn b a) depth t s at st) r at (st .used) (st .used) old new
 
--- the instruction at a place of the code: the bytes from there to the end
-unfoldable pub resultAt : (b a s : List ℕ) (at c : ℕ) → Result Node
-resultAt b a s at c = instructionOf (settingIn b a .description) c (drop at s)
+-- the walk at a place of the code: the bytes from there to the end
+unfoldable pub walkedAt : (b a s : List ℕ) (at c : ℕ) → Result Node
+walkedAt b a s at c = walkedOf (settingIn b a .description) c (drop at s)
 
 -- the fixed numbers, told that length
 abbrev pub toldLength : (a s : List ℕ) (at : ℕ) → List ℕ
@@ -140,7 +145,7 @@ pub record ConstructorAt (b a : List ℕ) (n at : ℕ) (st : State) : Type 0 whe
 
 -- the root's walk, with its own end
 abbrev pub RootWalks : (b a : List ℕ) → ℕ → List ℕ → List ℤ → Walked → List ℤ → Type 0
-RootWalks b a c s old r new = WalksTo sizedOf (instructionFrom (settingIn b a) c s) r 0 0 old new
+RootWalks b a c s old r new = WalksTo sizedOf (walkedFrom (settingIn b a) c s) r 0 0 old new
 
 -- a number's row, put where rows are kept
 abbrev pub PutsNumber : Field → Bool → ℕ → List ℕ → ℕ → ℕ → ℕ → List ℤ → List ℤ → Type 0

@@ -17,7 +17,7 @@ ghost use Rattle.decoding_spec.specs.State.{counted};
 ghost use Rattle.decoding_spec.specs.Walk.{widthOf};
 ghost use Rattle.setting.specs.Fixed.{Fixed, settingIn, totalPlace};
 ghost use Rattle.walking.specs.Scratch.{sized, written};
-ghost use Rattle.walking.specs.Walks.{Ready, Within, Closes, Showable, ShownWalks, FieldWalks, OperandWalks, OperandsWalk, ConstructorWalks, TableWalks, RootWalks, PutsNumber, PlacedAt, UsableAt, ConstructorAt, answerOf, instructionAs, resultAt, toldLength};
+ghost use Rattle.walking.specs.Walks.{beyondPlaces, Ready, Within, Closes, Showable, ShownWalks, FieldWalks, ComputedWalks, OperandWalks, OperandsWalk, ConstructorWalks, TableWalks, RootWalks, PutsNumber, PlacedAt, UsableAt, ConstructorAt, answerOf, instructionAs, walkedAt, toldLength};
 
 // A scratch row's numbers: those of a row, and its size. And the scratch buffer's numbers, for all rows.
 pub const SCRATCH_NUMBERS: usize = 5;
@@ -198,6 +198,33 @@ fn field_from(
     show(desc, fixed, field, index, code, place, rows, state)
 }
 
+// A computed operand: it has no bytes, and its value is not known before the root's end.
+fn computed_from(
+    fixed: &[usize; FIXED],
+    index: u8,
+    place: usize,
+    rows: &mut [i64],
+    state: State,
+) -> Walked
+    requires { ⌜ place < beyondPlaces ⌝ }
+    ensures { λ r. ⌜ ComputedWalks (getD (now (fixed .entry)) totalPlace 0) index place state (now (rows .entry)) r (now (rows .exit)) ⌝ }
+{
+    if format::ROWS <= state.used {
+        return Walked::Refused(Refusal::TooManyRows);
+    }
+    if LONGEST < place {
+        return Walked::Refused(Refusal::TooFar(place as u16));
+    }
+    if fixed[setting::TOTAL] < place {
+        return Walked::Refused(Refusal::Short(place as u16));
+    }
+    put_row(rows, state.used, 3, wide(index), place, 0, 1);
+    Walked::Done {
+        state: one_more(state),
+        length: 0,
+    }
+}
+
 // A constructor after its operands: its length, and its row before theirs.
 fn close(
     fixed: &[usize; FIXED],
@@ -262,6 +289,9 @@ fn walk_operand(
             rows,
             state,
         );
+    }
+    if operand.kind == 2 {
+        return computed_from(fixed, operand.index, place, rows, state);
     }
     walk_table(
         desc,
@@ -373,7 +403,7 @@ fn walk_table(
     }
 }
 
-// The instruction at the code's start: the root, with all of the code.
+// The walk at the code's start: the root, with all of the code.
 fn walk_root(
     desc: &[u8],
     fixed: &[usize; FIXED],
@@ -402,7 +432,7 @@ fn walk_root(
     }
 }
 
-// The instruction at a place of the code, without its rows: for sweeps.
+// The walk at a place of the code, without its rows.
 pub fn step_at(
     desc: &[u8],
     fixed: &mut [usize; FIXED],
@@ -411,7 +441,7 @@ pub fn step_at(
     at: usize,
 ) -> Walked
     requires { ⌜ Fixed (now desc) (now fixed) × (at ≤ length (now code)) ⌝ }
-    ensures { λ r. ⌜ r ≡ answerOf (resultAt (now (desc .entry)) (now (fixed .entry)) (now (code .entry)) at context) ⌝ }
+    ensures { λ r. ⌜ r ≡ answerOf (walkedAt (now (desc .entry)) (now (fixed .entry)) (now (code .entry)) at context) ⌝ }
     ensures { λ _. ⌜ now (fixed .exit) ≡ toldLength (now (fixed .entry)) (now (code .entry)) at ⌝ }
 {
     fixed[setting::TOTAL] = code.len() - at;
@@ -419,8 +449,8 @@ pub fn step_at(
     walk_root(desc, fixed, context, &code[at..], &mut none)
 }
 
-// The instruction at a place of the code, with its rows.
-pub fn decode_at(
+// The walk at a place of the code, with its rows.
+pub fn walk_at(
     desc: &[u8],
     fixed: &mut [usize; FIXED],
     context: u32,
@@ -428,7 +458,7 @@ pub fn decode_at(
     at: usize,
 ) -> Instruction
     requires { ⌜ Fixed (now desc) (now fixed) × (at ≤ length (now code)) ⌝ }
-    ensures { λ r. ⌜ r ≡ instructionAs (resultAt (now (desc .entry)) (now (fixed .entry)) (now (code .entry)) at context) ⌝ }
+    ensures { λ r. ⌜ r ≡ instructionAs (walkedAt (now (desc .entry)) (now (fixed .entry)) (now (code .entry)) at context) ⌝ }
     ensures { λ _. ⌜ now (fixed .exit) ≡ toldLength (now (fixed .entry)) (now (code .entry)) at ⌝ }
 {
     fixed[setting::TOTAL] = code.len() - at;

@@ -15,4 +15,5 @@ read-text-spec =
     (λ c. search needs)
     (λ c. rw (sym (c .before .before .count .ensures) ∙ c .enum-told .given .1))
     (λ c. rw (sym (c .before .before .before .before .before .count .ensures) ∙ c .before .before .before .text .given .1, eq-eqb _ _ (c .if1 .taken)))
-    (λ c. rw (sym (c .before .before .before .before .before .count .ensures) ∙ c .before .before .before .text .given .1, ne-eqb _ _ (c .if1 .left))))
+    (λ c κs. search needs)
+    (λ c. rw (sym (c .before .before .before .before .before .before .count .ensures) ∙ c .before .before .before .before .text .given .1, ne-eqb _ _ (c .before .if1 .left)) (c .read-expressions .ensures)))

@@ -47,6 +47,12 @@ array-write-fixed-12 c = search needs
 array-write-fixed-13 : tie.Need-array-write-fixed-13
 array-write-fixed-13 c = search needs
 
+array-write-fixed-14 : tie.Need-array-write-fixed-14
+array-write-fixed-14 c = search needs
+
+array-write-fixed-15 : tie.Need-array-write-fixed-15
+array-write-fixed-15 c = search needs
+
 with-starts-requires : tie.Need-with-starts-requires
 with-starts-requires c κs = search needs
 
@@ -75,6 +81,8 @@ fill-spec =
     array-write-fixed-11
     array-write-fixed-12
     array-write-fixed-13
+    array-write-fixed-14
+    array-write-fixed-15
     with-starts-requires
     returns
     returns-2)

@@ -17,7 +17,7 @@ use Rattle.walking.specs.Walks.{Within}
 use Rattle.walking.specs.declared.Walked.the-variants.{Done}
 use Rattle.walking.proofs.Readiness.{stayed, moved}
 use Rattle.walking.proofs.Steps.{within}
-use Rattle.walking.proofs.Turns.{LoopState, first-turn, next-turn, refused-turn, last-turn, operand-field, operand-table, constructor-closes, table-full, table-far, table-refused, table-taken}
+use Rattle.walking.proofs.Turns.{LoopState, first-turn, next-turn, refused-turn, last-turn, operand-field, operand-computed, operand-table, constructor-closes, table-full, table-far, table-refused, table-taken}
 use borrow.Fn.Kinds.{In}
 use borrow.Fn.PlainCycle.{Measures, is, falls, and}
 use Rattle.walking.proofs.walk_constructor.Reads as walk-constructor
@@ -36,6 +36,7 @@ use Rattle.setting.proofs.choose_at.Reads as choose-at-reads
 use Rattle.setting.proofs.constructor.Reads as constructor-reads
 use Rattle.setting.proofs.operand.Reads as operand-reads
 use Rattle.walking.proofs.close.Reads as close-reads
+use Rattle.walking.proofs.computed_from.Reads as computed-from-reads
 use Rattle.walking.proofs.field_from.Reads as field-from-reads
 use Rattle.walking.proofs.larger.Reads as larger-reads
 use Rattle.walking.proofs.one_more.Reads as one-more-reads
@@ -115,7 +116,7 @@ abbrev walk-constructor-claims : ℕ → walk-constructor-lts.Claims
 walk-constructor-claims t = (constructor-reads.Asked, constructor-reads.Learnt, one-more-reads.Asked, one-more-reads.Learnt, walk-operands-below t, walk-operands.Post, wide-reads.Asked, wide-reads.Learnt, close-reads.Asked, close-reads.Learnt)
 
 abbrev walk-operand-claims : ℕ → walk-operand-lts.Claims
-walk-operand-claims t = (smaller-reads.Asked, smaller-reads.Learnt, field-from-reads.Asked, field-from-reads.Learnt, walk-table-below t, walk-table.Post)
+walk-operand-claims t = (smaller-reads.Asked, smaller-reads.Learnt, field-from-reads.Asked, field-from-reads.Learnt, computed-from-reads.Asked, computed-from-reads.Learnt, walk-table-below t, walk-table.Post)
 
 abbrev walk-operands-claims : ℕ → walk-operands-lts.Claims
 walk-operands-claims t = (wide-reads.Asked, wide-reads.Learnt, operand-reads.Asked, operand-reads.Learnt, walk-operand-below t, walk-operand.Post, larger-reads.Asked, larger-reads.Learnt)
@@ -188,6 +189,20 @@ walk-operand-returns t c =
     let earlier = c .before .before .before .before in
     operand-field _ _ _ _ _ _ _ _ _ _ (earlier .before .before .smaller .ensures) (earlier .if1 .taken) (c .before .field-from .ensures)
 
+walk-operand-computed-from-requires : (t : ℕ) → walk-operand-lts.Need-computed-from-requires (walk-operand-claims t) (walk-operand-at t) walk-operand.Post
+walk-operand-computed-from-requires t c κs =
+    let ready = c .before .before .before .before .before .before .before .before .pre .1 in
+    omega (arith, ready .own .near, ready .own .small)
+
+walk-operand-same-length-2 : (t : ℕ) → walk-operand-lts.Need-same-length-2 (walk-operand-claims t) (walk-operand-at t) walk-operand.Post
+walk-operand-same-length-2 t c = search needs
+
+walk-operand-returns-2 : (t : ℕ) → walk-operand-lts.Need-returns-2 (walk-operand-claims t) (walk-operand-at t) walk-operand.Post
+walk-operand-returns-2 t c =
+    let earlier = c .before .before .before in
+    operand-computed _ _ _ _ _ _ _ _ _ _ (earlier .before .before .before .before .smaller .ensures) (earlier .before .before .if1 .left) (earlier .if2 .taken)
+    (c .before .computed-from .ensures _ (total-in _ _))
+
 walk-operand-sub-walk-table : (t : ℕ) → walk-operand-lts.Need-sub-walk-table (walk-operand-claims t) (walk-operand-at t) walk-operand.Post
 walk-operand-sub-walk-table t c = search needs
 
@@ -200,18 +215,19 @@ walk-operand-part-walk-table-end t c = search needs
 walk-operand-walk-table-requires : (t : ℕ) → walk-operand-lts.Need-walk-table-requires (walk-operand-claims t) (walk-operand-at t) walk-operand.Post
 walk-operand-walk-table-requires t c κs =
     let earlier = c .before .before .before .before in
-    let ready = earlier .before .before .before .pre .1 in (
-      omega (arith, earlier .before .before .before .pre .0),
-      moved _ _ _ _ _ ready _ _ (earlier .smaller .ensures) (ready .own .near) (ready .own .small) (ready .own .placed .table (c .before .before .if1 .left)),
+    let start = earlier .before .before .before .before .before in
+    let ready = start .pre .1 in (
+      omega (arith, start .pre .0),
+      moved _ _ _ _ _ ready _ _ (earlier .before .before .smaller .ensures) (ready .own .near) (ready .own .small) (ready .own .placed .table (earlier .if1 .left) (c .before .before .if2 .left)),
     )
 
-walk-operand-same-length-2 : (t : ℕ) → walk-operand-lts.Need-same-length-2 (walk-operand-claims t) (walk-operand-at t) walk-operand.Post
-walk-operand-same-length-2 t c = search needs
+walk-operand-same-length-3 : (t : ℕ) → walk-operand-lts.Need-same-length-3 (walk-operand-claims t) (walk-operand-at t) walk-operand.Post
+walk-operand-same-length-3 t c = search needs
 
-walk-operand-returns-2 : (t : ℕ) → walk-operand-lts.Need-returns-2 (walk-operand-claims t) (walk-operand-at t) walk-operand.Post
-walk-operand-returns-2 t c =
+walk-operand-returns-3 : (t : ℕ) → walk-operand-lts.Need-returns-3 (walk-operand-claims t) (walk-operand-at t) walk-operand.Post
+walk-operand-returns-3 t c =
     let earlier = c .before .before .before .before in
-    operand-table _ _ _ _ _ _ _ _ _ _ (earlier .before .before .smaller .ensures) (earlier .if1 .left) (c .before .walk-table .ensures)
+    operand-table _ _ _ _ _ _ _ _ _ _ (earlier .before .before .before .before .smaller .ensures) (earlier .before .before .if1 .left) (earlier .if2 .left) (c .before .walk-table .ensures)
 
 abbrev walk-operands-Inv-loop : walk-operands-lts.InvT-loop
 walk-operands-Inv-loop desc fixed code at rows₀ first count ends₀ far₀ passed₀ o₀ rows ends far passed o =
@@ -443,6 +459,8 @@ pub +walk-constructor+walk-operand+walk-operands+walk-table-spec : {M : Type 1} 
       smaller-reads.Learnt,
       field-from-reads.Asked,
       field-from-reads.Learnt,
+      computed-from-reads.Asked,
+      computed-from-reads.Learnt,
       walk-table-below t,
       walk-table.Post,
     ) (walk-operand-at t)
@@ -455,12 +473,15 @@ pub +walk-constructor+walk-operand+walk-operands+walk-table-spec : {M : Type 1} 
     (walk-operand-field-from-requires t)
     (walk-operand-same-length t)
     (walk-operand-returns t)
+    (walk-operand-computed-from-requires t)
+    (walk-operand-same-length-2 t)
+    (walk-operand-returns-2 t)
     (walk-operand-sub-walk-table t)
     (walk-operand-part-walk-table-start t)
     (walk-operand-part-walk-table-end t)
     (walk-operand-walk-table-requires t)
-    (walk-operand-same-length-2 t)
-    (walk-operand-returns-2 t))
+    (walk-operand-same-length-3 t)
+    (walk-operand-returns-3 t))
     (λ t. walk-operands-lts.spec (
       wide-reads.Asked,
       wide-reads.Learnt,

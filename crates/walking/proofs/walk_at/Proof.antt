@@ -1,12 +1,12 @@
--- `walking::decode_at` meets its contract. Assumes nothing.
+-- `walking::walk_at` meets its contract. Assumes nothing.
 use mathlib.Core.Path.{refl}
 use native.Mathlib.Omega.{arith}
-use Rattle.walking.proofs.Places.{root-ready, decode-refused, decode-done}
+use Rattle.walking.proofs.Places.{root-ready, walk-refused, walk-done}
 use borrow.Author.Needs.{needs}
-use Rattle.walking.proofs.decode_at.Statement.{statement}
-use Rattle.walking.proofs.decode_at.Tie as tie
-use Rattle.walking.proofs.decode_at.Reads as reads
-use Rattle.walking.proofs.decode_at.Lts as lts
+use Rattle.walking.proofs.walk_at.Statement.{statement}
+use Rattle.walking.proofs.walk_at.Tie as tie
+use Rattle.walking.proofs.walk_at.Reads as reads
+use Rattle.walking.proofs.walk_at.Lts as lts
 use Rattle.walking.proofs.walk_root.Reads as walk-root-reads
 
 sub-fixed : tie.Need-sub-fixed
@@ -41,15 +41,15 @@ enum-known-walked-2 c = search needs
 returns : tie.Need-returns
 returns c =
     let earlier = c .before .before .before .before .before .before .before .before .before .before in
-    (decode-refused _ (earlier .args .fixed .now) (earlier .args .code .now) (earlier .args .at) _ (omega (arith, earlier .pre .0 .long)) _ _ _ (c .before .before .before .before .walk-root .ensures) _ (c .before .walked .given .1), refl)
+    (walk-refused _ (earlier .args .fixed .now) (earlier .args .code .now) (earlier .args .at) _ (omega (arith, earlier .pre .0 .long)) _ _ _ (c .before .before .before .before .walk-root .ensures) _ (c .before .walked .given .1), refl)
 
 returns-2 : tie.Need-returns-2
 returns-2 c =
     let earlier = c .before .before .before .before .before .before .before .before .before .before in
-    (decode-done _ (earlier .args .fixed .now) (earlier .args .code .now) (earlier .args .at) _ (omega (arith, earlier .pre .0 .long)) _ _ _ (c .before .before .before .before .walk-root .ensures) _ _ (c .before .walked2 .given .1) refl, refl)
+    (walk-done _ (earlier .args .fixed .now) (earlier .args .code .now) (earlier .args .at) _ (omega (arith, earlier .pre .0 .long)) _ _ _ (c .before .before .before .before .walk-root .ensures) _ _ (c .before .walked2 .given .1) refl, refl)
 
-pub decode-at-spec : {M : Type 1} → statement M
-decode-at-spec =
+pub walk-at-spec : {M : Type 1} → statement M
+walk-at-spec =
     tie.close
     (tie.spec
     sub-fixed

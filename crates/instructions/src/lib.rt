@@ -1,0 +1,234 @@
+// The instruction at a place of the code and at an address: the walk, and then the values of its computed operands.
+use decoding_spec::Refusal;
+use setting::FIXED;
+use walking::Instruction;
+use walking::SCRATCH;
+use walking::Walked;
+use whole_numbers::Whole;
+ghost use mathlib.Core.Path.{_≡_};
+ghost use Prim.Native.Nat.{_+_, _-_, _<_, _≤_};
+ghost use lib.ListN.{length};
+ghost use Rattle.format.specs.Numbers.{mostRows};
+ghost use Rattle.setting.specs.Fixed.{Fixed, settingIn};
+ghost use Rattle.walking.specs.Scratch.{scratchLength};
+ghost use Rattle.walking.specs.Walks.{answerOf, instructionAs, toldLength};
+ghost use Rattle.scratch_rows.specs.Places.{kindAt};
+ghost use Rattle.instructions.specs.Settling.{ownerBelow, countAt, countsAt, computedAt, settledAt, settledFrom};
+ghost use Rattle.instructions.specs.Instructions.{ReadableRows, RowOf, Settles, resultAt};
+
+const COLUMNS: usize = scratch_rows::COLUMNS;
+
+const OPERANDS: usize = format::OPERANDS_EACH as usize;
+
+// The values were put in, or the place of the first operand that has a value outside.
+pub enum Settled {
+    AllInside,
+    OutsideAt(u16),
+}
+
+fn less(a: usize, b: usize) -> usize
+    ensures { λ r. ⌜ r ≡ a - b ⌝ }
+{
+    if a < b {
+        return 0;
+    }
+    a - b
+}
+
+// The constructor that the row is an operand of: the last one before it whose part reaches past it.
+fn owner_of(rows: &[i64], row: usize) -> usize
+    requires { ⌜ (length (now rows) ≡ scratchLength) × (row ≤ mostRows) ⌝ }
+    ensures { λ r. ⌜ r ≡ ownerBelow (now (rows .entry)) row row ⌝ }
+{
+    let mut k = row;
+    while 0 < k {
+        k -= 1;
+        let size = scratch_rows::column(rows, COLUMNS * k + 4);
+        if row - k < size {
+            return k;
+        }
+    }
+    0
+}
+
+// What the part at a row counts as: a field as its value, a name field as its bits.
+fn count_at(desc: &[u8], fixed: &[usize; FIXED], rows: &[i64], used: usize, row: usize) -> i64
+    requires { ⌜ RowOf (now desc) (now fixed) (now rows) used row ⌝ }
+    ensures { λ r. ⌜ r ≡ countAt (settingIn (now (desc .entry)) (now (fixed .entry)) .description) (now (rows .entry)) row ⌝ }
+{
+    let kind = scratch_rows::column(rows, COLUMNS * row);
+    if kind == 1 {
+        return rows[COLUMNS * row + 3];
+    }
+    if kind == 2 {
+        let index = scratch_rows::column(rows, COLUMNS * row + 1);
+        let field = setting::field(desc, fixed, index);
+        let name = printing::magnitude(rows[COLUMNS * row + 3]) as usize;
+        return less(name, field.first as usize) as i64;
+    }
+    0
+}
+
+// The operands of the constructor at a row, with zeros behind them.
+fn counts_at(
+    desc: &[u8],
+    fixed: &[usize; FIXED],
+    rows: &[i64],
+    used: usize,
+    owner: usize,
+) -> [i64; OPERANDS]
+    requires { ⌜ RowOf (now desc) (now fixed) (now rows) used owner ⌝ }
+    ensures { λ r. ⌜ r ≡ countsAt (settingIn (now (desc .entry)) (now (fixed .entry)) .description) (now (rows .entry)) owner ⌝ }
+{
+    let end = owner + scratch_rows::column(rows, COLUMNS * owner + 4);
+    let mut counts = [0i64; OPERANDS];
+    let mut row = owner + 1;
+    let mut o = 0;
+    while o < OPERANDS {
+        if end <= row {
+            return counts;
+        }
+        counts[o] = count_at(desc, fixed, rows, used, row);
+        row += scratch_rows::column(rows, COLUMNS * row + 4);
+        o += 1;
+    }
+    counts
+}
+
+// The value of the computed operand at a row.
+fn computed_at(
+    desc: &[u8],
+    fixed: &[usize; FIXED],
+    rows: &[i64],
+    used: usize,
+    row: usize,
+    here: u64,
+    after: u64,
+) -> Whole
+    requires { ⌜ RowOf (now desc) (now fixed) (now rows) used row × (kindAt (now rows) row ≡ 3) ⌝ }
+    ensures { λ r. ⌜ r ≡ computedAt (settingIn (now (desc .entry)) (now (fixed .entry)) .description) here after (now (rows .entry)) row ⌝ }
+{
+    let owner = owner_of(rows, row);
+    let counts = counts_at(desc, fixed, rows, used, owner);
+    let index = scratch_rows::column(rows, COLUMNS * row + 1);
+    let place = setting::expression_place(desc, fixed, index);
+    expressions::evaluate(desc, place, &counts, here, after)
+}
+
+// The value put in, if the row is a computed operand's.
+fn settle_row(
+    desc: &[u8],
+    fixed: &[usize; FIXED],
+    rows: &mut [i64],
+    used: usize,
+    row: usize,
+    here: u64,
+    after: u64,
+) -> Settled
+    requires { ⌜ RowOf (now desc) (now fixed) (now rows) used row ⌝ }
+    ensures { λ r. ⌜ Settles (settledAt (settingIn (now (desc .entry)) (now (fixed .entry)) .description) here after (now (rows .entry)) row) r (now (rows .exit)) ⌝ }
+{
+    if scratch_rows::column(rows, COLUMNS * row) != 3 {
+        return Settled::AllInside;
+    }
+    let value = computed_at(desc, fixed, rows, used, row, here, after);
+    match value {
+        Whole::Outside => {
+            let place = scratch_rows::column(rows, COLUMNS * row + 2);
+            Settled::OutsideAt(place as u16)
+        }
+        Whole::Value(v) => {
+            rows[COLUMNS * row + 3] = v;
+            Settled::AllInside
+        }
+    }
+}
+
+// The values of all computed operands put in, in the rows' order.
+fn settle(
+    desc: &[u8],
+    fixed: &[usize; FIXED],
+    rows: &mut [i64],
+    used: usize,
+    here: u64,
+    after: u64,
+) -> Settled
+    requires { ⌜ Fixed (now desc) (now fixed) × ReadableRows (settingIn (now desc) (now fixed) .description) (now rows) used ⌝ }
+    ensures { λ r. ⌜ Settles (settledFrom (settingIn (now (desc .entry)) (now (fixed .entry)) .description) here after (now (rows .entry)) 0 used) r (now (rows .exit)) ⌝ }
+{
+    let mut row = 0;
+    while row < used {
+        let settled = settle_row(desc, fixed, rows, used, row, here, after);
+        match settled {
+            Settled::OutsideAt(place) => {
+                return Settled::OutsideAt(place);
+            }
+            Settled::AllInside => {
+                row += 1;
+            }
+        }
+    }
+    Settled::AllInside
+}
+
+// The instruction at a place of the code, with its rows.
+pub fn decode_at(
+    desc: &[u8],
+    fixed: &mut [usize; FIXED],
+    context: u32,
+    address: u32,
+    code: &[u8],
+    at: usize,
+) -> Instruction
+    requires { ⌜ Fixed (now desc) (now fixed) × (at ≤ length (now code)) ⌝ }
+    ensures { λ r. ⌜ r ≡ instructionAs (resultAt (now (desc .entry)) (now (fixed .entry)) (now (code .entry)) at context address) ⌝ }
+    ensures { λ _. ⌜ now (fixed .exit) ≡ toldLength (now (fixed .entry)) (now (code .entry)) at ⌝ }
+{
+    if fixed[setting::EXPRESSIONS] == 0 {
+        return walking::walk_at(desc, fixed, context, code, at);
+    }
+    let found = walking::walk_at(desc, fixed, context, code, at);
+    let walked = found.walked;
+    let Walked::Done { state, length } = walked else {
+        return found;
+    };
+    let mut rows = found.rows;
+    let here = (address as u64) + (at as u64);
+    let settled = settle(
+        desc,
+        fixed,
+        &mut rows,
+        state.used,
+        here,
+        here + (length as u64),
+    );
+    match settled {
+        Settled::AllInside => Instruction {
+            rows,
+            walked: Walked::Done { state, length },
+        },
+        Settled::OutsideAt(place) => Instruction {
+            rows: [0i64; SCRATCH],
+            walked: Walked::Refused(Refusal::ValueOutside(place)),
+        },
+    }
+}
+
+// The instruction at a place of the code, without its rows: for sweeps. Only a description with expressions needs them.
+pub fn step_at(
+    desc: &[u8],
+    fixed: &mut [usize; FIXED],
+    context: u32,
+    address: u32,
+    code: &[u8],
+    at: usize,
+) -> Walked
+    requires { ⌜ Fixed (now desc) (now fixed) × (at ≤ length (now code)) ⌝ }
+    ensures { λ r. ⌜ r ≡ answerOf (resultAt (now (desc .entry)) (now (fixed .entry)) (now (code .entry)) at context address) ⌝ }
+    ensures { λ _. ⌜ now (fixed .exit) ≡ toldLength (now (fixed .entry)) (now (code .entry)) at ⌝ }
+{
+    if fixed[setting::EXPRESSIONS] == 0 {
+        return walking::step_at(desc, fixed, context, code, at);
+    }
+    decode_at(desc, fixed, context, address, code, at).walked
+}

@@ -1,0 +1,2 @@
+-- Laws of the scratch rows.
+pub mod Standing

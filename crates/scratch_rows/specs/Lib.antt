@@ -1,0 +1,2 @@
+-- The scratch rows, read by their places.
+pub mod Places

@@ -1,0 +1,3 @@
+-- Whole numbers inside signed 64 bits, and the operators on them (request 1, "Branch targets").
+pub mod Range
+pub mod Operators
