@@ -10,3 +10,4 @@ pub mod Shapes
 pub mod Refusals
 pub mod Choices
 pub mod Deep
+pub mod Entries

@@ -3,3 +3,4 @@ pub mod Minimum
 pub mod Gathered
 pub mod Shape
 pub mod Pieces
+pub mod FieldOperands

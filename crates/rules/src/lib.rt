@@ -16,9 +16,10 @@ ghost use Rattle.lists.specs.Below.{allBelow};
 ghost use Rattle.format.specs.Numbers.{namesBits, byteValues};
 ghost use Rattle.format.specs.Layout.{SectionsInBounds};
 ghost use Rattle.format.specs.Description.{description, fieldsOf};
-ghost use Rattle.format.specs.Rules.{sourceOk, bitsOk, lookOk, fieldOk, nameOk, tableOk, minimumOk, valueOk, rangeOk, shapeOk, anchorFits, operandFits, pieceFits, constructorOk, fieldFits, operandOk, pieceOk, letterOk};
+ghost use Rattle.format.specs.Rules.{sourceOk, bitsOk, lookOk, fieldOk, nameOk, tableOk, minimumOk, valueOk, rangeOk, shapeOk, anchorFits, expressionFits, operandFits, pieceFits, constructorOk, fieldFits, operandOk, pieceOk, letterOk};
 ghost use Rattle.rules.specs.Marks.{tableMarks, shownMarks};
 ghost use Rattle.rules.specs.Judging.{Marked, Judging, Shaped};
+ghost use Rattle.rules.specs.FieldOperands.{withBit, FieldBits};
 
 // The marks of the operands shown so far.
 const SHOWN: u8 = 16;
@@ -153,7 +154,18 @@ pub fn tables_of(desc: &[u8], layout: Layout) -> [bool; format::BYTE_VALUES]
     marks
 }
 
-// Operand o, from 0, of a constructor of this table.
+// The word with this bit, if it is to be set.
+fn with_bit(word: u16, bit: u16, set: bool) -> u16
+    requires { ⌜ word + bit < 2 ^ 16 ⌝ }
+    ensures { λ r. ⌜ r ≡ withBit word bit set ⌝ }
+{
+    if set {
+        return word + bit;
+    }
+    word
+}
+
+// Operand o, from 0, of a constructor of this table: its anchor and its table.
 fn operand_fits(x: Operand, tables: &[bool; format::BYTE_VALUES], table: u8, o: usize) -> bool
     requires { ⌜ o < byteValues ⌝ }
     ensures { λ r. ⌜ r ≡ anchorFits o x && (not (eqb (x .kind) 1) || (ltb (x .index) table && getD (now (tables .entry)) (x .index) false)) ⌝ }
@@ -161,6 +173,66 @@ fn operand_fits(x: Operand, tables: &[bool; format::BYTE_VALUES], table: u8, o: 
     let anchor = x.anchor as usize;
     let index = x.index as usize;
     (anchor < o + 1) & ((x.kind != 1) | ((x.index < table) & tables[index]))
+}
+
+// The constructor's field operands, as the bits of a word: bit n for operand n, the first is 1.
+fn field_operands(desc: &[u8], layout: Layout, c: Constructor) -> u16
+    requires { ⌜ SectionsInBounds (now desc) layout ⌝ }
+    requires { ⌜ Shaped (layout .operands .count) (layout .pieces .count) c ⌝ }
+    ensures { λ r. ⌜ FieldBits (description (now (desc .entry)) layout) c r ⌝ }
+{
+    let first = c.operands.first as usize;
+    let n = c.operands.count as usize;
+    let mut word: u16 = 0;
+    let mut bit: u16 = 2;
+    let mut o = 0;
+    while o < n {
+        let x = sections::operand_at(desc, layout, first + o);
+        word = with_bit(word, bit, x.kind == 0);
+        bit = 2 * bit;
+        o += 1;
+    }
+    word
+}
+
+// An expression that the operand names, if it is written, names field operands of the constructor.
+fn expression_fits(desc: &[u8], layout: Layout, c: Constructor, x: Operand) -> bool
+    requires { ⌜ SectionsInBounds (now desc) layout ⌝ }
+    requires { ⌜ Shaped (layout .operands .count) (layout .pieces .count) c ⌝ }
+    ensures { λ r. ⌜ r ≡ expressionFits (description (now (desc .entry)) layout) c x ⌝ }
+{
+    if x.kind != 2 {
+        return true;
+    }
+    let index = x.index as usize;
+    if layout.expressions.count <= index {
+        return true;
+    }
+    let at = sections::expression_place(desc, layout, index);
+    if !expressions::writes(desc, at) {
+        return true;
+    }
+    expressions::names_only(desc, at, field_operands(desc, layout, c))
+}
+
+// The constructor's operand o, from 0, fits it.
+fn used_fits(
+    desc: &[u8],
+    layout: Layout,
+    tables: &[bool; format::BYTE_VALUES],
+    c: Constructor,
+    o: usize,
+) -> bool
+    requires { ⌜ Marked (now desc) layout (now tables) ⌝ }
+    requires { ⌜ Shaped (layout .operands .count) (layout .pieces .count) c × (o < c .operands .count) ⌝ }
+    ensures { λ r. ⌜ r ≡ operandFits (description (now (desc .entry)) layout) c o ⌝ }
+{
+    let first = c.operands.first as usize;
+    let x = sections::operand_at(desc, layout, first + o);
+    if !operand_fits(x, tables, c.table, o) {
+        return false;
+    }
+    expression_fits(desc, layout, c, x)
 }
 
 fn operands_ok(
@@ -173,13 +245,10 @@ fn operands_ok(
     requires { ⌜ Shaped (layout .operands .count) (layout .pieces .count) c ⌝ }
     ensures { λ r. ⌜ r ≡ allBelow (c .operands .count) (operandFits (description (now (desc .entry)) layout) c) ⌝ }
 {
-    let first = c.operands.first as usize;
     let n = c.operands.count as usize;
     let mut o = 0;
     while o < n {
-        let x = sections::operand_at(desc, layout, first + o);
-        let fits = operand_fits(x, tables, c.table, o);
-        if fits {
+        if used_fits(desc, layout, tables, c, o) {
             o += 1;
         } else {
             return false;
@@ -253,11 +322,12 @@ fn field_fits(desc: &[u8], layout: Layout, x: Operand) -> bool
 
 pub fn operand_ok(desc: &[u8], layout: Layout, x: Operand) -> bool
     requires { ⌜ SectionsInBounds (now desc) layout ⌝ }
-    ensures { λ r. ⌜ r ≡ operandOk (fieldsOf (now (desc .entry)) layout) x ⌝ }
+    ensures { λ r. ⌜ r ≡ operandOk (fieldsOf (now (desc .entry)) layout) (layout .expressions .count) x ⌝ }
 {
     if x.kind == 0 {
-        (x.offset <= format::FARTHEST) & field_fits(desc, layout, x)
-    } else {
-        (x.offset <= format::FARTHEST) & (x.kind == 1)
+        return (x.offset <= format::FARTHEST) & field_fits(desc, layout, x);
     }
+    let index = x.index as usize;
+    let computed = (index < layout.expressions.count) & (x.anchor == 0) & (x.offset == 0);
+    (x.offset <= format::FARTHEST) & ((x.kind == 1) | ((x.kind == 2) & computed))
 }

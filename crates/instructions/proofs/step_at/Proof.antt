@@ -2,6 +2,7 @@
 use mathlib.Core.Path.{_≡_, ap, _∙_}
 use Rattle.walking.specs.Walks.{answerOf}
 use Rattle.walking.specs.declared.Instruction.{Instruction}
+use Rattle.instructions.specs.Instructions.{resultAt}
 use Rattle.instructions.proofs.Ending.{walked-of, none-computed}
 use borrow.Author.Needs.{needs}
 use Rattle.instructions.proofs.step_at.Statement.{statement}
@@ -26,7 +27,10 @@ decode-at-requires : tie.Need-decode-at-requires
 decode-at-requires c κs = search needs
 
 returns-2 : tie.Need-returns-2
-returns-2 c = (ap (λ (i : Instruction). i .walked) (c .decode-at .ensures .0) ∙ walked-of _, c .decode-at .ensures .1)
+returns-2 c =
+    let start = c .before .before .before .before .before .before in
+    let result = resultAt (start .args .desc .now) (start .args .fixed .now) (start .args .code .now) (start .args .at) (start .args .context) (start .args .address) in
+    (ap (λ (i : Instruction). i .walked) (c .decode-at .ensures .0) ∙ walked-of result, c .decode-at .ensures .1)
 
 pub step-at-spec : {M : Type 1} → statement M
 step-at-spec =

@@ -1,5 +1,5 @@
 use Rattle.format.specs.Rules.{operandOk}
-use Rattle.lists.proofs.Bools.{or-no}
+use mathlib.Core.Bool.{or-false}
 use borrow.Author.Tests.{ne-eqb}
 use borrow.Author.Needs.{needs}
 use Rattle.rules.proofs.operand_ok.Statement.{statement}
@@ -7,7 +7,7 @@ use Rattle.rules.proofs.operand_ok.Tie as tie
 
 returns : tie.Need-returns
 unfolding operandOk
-returns c = rw (c .before .before .if1 .taken, or-no, c .field-fits .ensures)
+returns c = rw (c .before .before .if1 .taken, c .field-fits .ensures, or-false, or-false)
 
 returns-2 : tie.Need-returns-2
 unfolding operandOk
