@@ -181,12 +181,12 @@ fn field_operands(desc: &[u8], layout: Layout, c: Constructor) -> u16
     requires { ⌜ Shaped (layout .operands .count) (layout .pieces .count) c ⌝ }
     ensures { λ r. ⌜ FieldBits (description (now (desc .entry)) layout) c r ⌝ }
 {
-    let first = c.operands.first as usize;
     let n = c.operands.count as usize;
     let mut word: u16 = 0;
     let mut bit: u16 = 2;
     let mut o = 0;
     while o < n {
+        let first = c.operands.first as usize;
         let x = sections::operand_at(desc, layout, first + o);
         word = with_bit(word, bit, x.kind == 0);
         bit = 2 * bit;

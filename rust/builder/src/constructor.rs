@@ -1,5 +1,6 @@
 //! Constructors and operands.
 
+use crate::expression::Expression;
 use crate::limits;
 use crate::pattern::Pattern;
 use crate::refusal::{ensure, Refusal};
@@ -67,7 +68,7 @@ impl Constructor {
     }
 
     /// An operand, after those before. Only one that stands elsewhere than at
-    /// the start, that is not shown or that comes in another order needs this.
+    /// the start, that is computed, not shown or in another order needs this.
     pub fn operand(mut self, operand: Operand) -> Constructor {
         self.operands.push(operand);
         self
@@ -92,21 +93,39 @@ impl Constructor {
     }
 }
 
-/// A field or table as part of a constructor, and where it starts.
+/// A field or table as part of a constructor, and where it starts; or a number
+/// that is computed.
 #[derive(Clone, Debug)]
 pub struct Operand {
-    pub(crate) of: String,
+    pub(crate) of: Of,
     pub(crate) name: String,
     pub(crate) after: Option<String>,
     pub(crate) offset: u8,
 }
 
+#[derive(Clone, Debug)]
+pub(crate) enum Of {
+    /// A field or a table.
+    Named(String),
+    Computed(Expression),
+}
+
 impl Operand {
     /// The field or table of this name, at the constructor's start.
     pub fn new(of: &str) -> Operand {
+        Operand::named_of(of, Of::Named(of.to_string()))
+    }
+
+    /// What this expression comes to, shown as `-0x2`. It takes no bytes and
+    /// has no place in the instruction.
+    pub fn computed(name: &str, expression: Expression) -> Operand {
+        Operand::named_of(name, Of::Computed(expression))
+    }
+
+    fn named_of(name: &str, of: Of) -> Operand {
         Operand {
-            of: of.to_string(),
-            name: of.to_string(),
+            of,
+            name: name.to_string(),
             after: None,
             offset: 0,
         }

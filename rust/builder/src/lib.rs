@@ -24,6 +24,7 @@
 
 mod build;
 mod constructor;
+mod expression;
 mod field;
 mod limits;
 mod pattern;
@@ -34,6 +35,7 @@ mod tables;
 
 pub use build::Builder;
 pub use constructor::{Constructor, Operand};
+pub use expression::Expression;
 pub use field::Field;
 pub use refusal::Refusal;
 

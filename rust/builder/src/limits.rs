@@ -6,6 +6,7 @@ pub const CONSTRUCTORS: usize = 512;
 pub const OPERANDS: usize = 2048;
 pub const PIECES: usize = 4096;
 pub const TEXT: usize = 8192;
+pub const EXPRESSIONS: usize = 256;
 
 pub const TABLES: usize = 64;
 pub const CONSTRUCTOR_OPERANDS: usize = 8;
@@ -18,3 +19,5 @@ pub const MINIMUM_LENGTH: u8 = 16;
 pub const OFFSET: u8 = 15;
 /// A text's length is one byte.
 pub const RUN: usize = 255;
+pub const STEPS: usize = 16;
+pub const SHIFT: u8 = 63;

@@ -1,59 +1,43 @@
+use Rattle.rules.proofs.FieldOperands.{Marking, mark-none, mark-more, mark-near, mark-all}
+use Rattle.format.specs.Description.{description}
+use borrow.Author.Needs.{needs}
+use native.Mathlib.Omega.{arith}
+use Prim.Native.Nat.{_-_, _<_, _≤_}
 use Rattle.rules.proofs.field_operands.Statement.{statement}
 use Rattle.rules.proofs.field_operands.Tie as tie
-use Rattle.rules.proofs.field_operands.Reads as reads
-use Rattle.rules.proofs.field_operands.Lts as lts
-use Rattle.rules.proofs.with_bit.Reads as with-bit-reads
-use Rattle.sections.proofs.operand_at.Reads as operand-at-reads
 
 abbrev Inv-loop : tie.InvT-loop
-Inv-loop desc layout first n word₀ bit₀ o₀ word bit o = ?
+Inv-loop desc layout c n word₀ bit₀ o₀ word bit o = Marking (description desc layout) c word bit o
 
 abbrev μ-loop : tie.MeasureT-loop
-μ-loop desc layout first n word₀ bit₀ o₀ word bit o = ?
+μ-loop desc layout c n word₀ bit₀ o₀ word bit o = n - o
 
--- src/lib.rt:184:17
-cast-first : tie.Need-cast-first Inv-loop μ-loop
-cast-first c = ?
+-- the word and the next bit at operand o
+near : (c : tie.In-loop Inv-loop μ-loop) → (c .before .loop .word < c .before .loop .bit) × (c .before .loop .bit ≤ 256)
+near c =
+    let start = c .before .before .before .before in
+    mark-near (description (start .args .desc .now) (start .args .layout)) (start .args .c) (c .before .loop .word) (c .before .loop .bit) (c .before .loop .o)
+    (c .before .loop .inv) (omega arith) (start .pre .1 .operands .few)
 
--- src/lib.rt:185:13
-cast-n : tie.Need-cast-n Inv-loop μ-loop
-cast-n c = ?
-
--- src/lib.rt:189:5
-loop-holds : tie.Need-loop-holds Inv-loop μ-loop
-loop-holds c = ?
-
--- src/lib.rt:190:52
-add-operand-at : tie.Need-add-operand-at Inv-loop μ-loop
-add-operand-at c = ?
-
--- src/lib.rt:190:13
-operand-at-requires : tie.Need-operand-at-requires Inv-loop μ-loop
-operand-at-requires c κs = ?
-
--- src/lib.rt:191:9
 with-bit-requires : tie.Need-with-bit-requires Inv-loop μ-loop
-with-bit-requires c κs = ?
+with-bit-requires c κs = let n = near (c .before .before .before) in omega (arith, n .0, n .1)
 
--- src/lib.rt:192:15
 mul-bit : tie.Need-mul-bit Inv-loop μ-loop
-mul-bit c = ?
+mul-bit c = let n = near (c .before .before .before .before) in omega (arith, n .0, n .1)
 
--- src/lib.rt:193:9
-add-o : tie.Need-add-o Inv-loop μ-loop
-add-o c = ?
-
--- src/lib.rt:189:5
-loop-less : tie.Need-loop-less Inv-loop μ-loop
-loop-less c = ?
-
--- src/lib.rt:189:5
 loop-again : tie.Need-loop-again Inv-loop μ-loop
-loop-again c = ?
+loop-again c =
+    let at = c .before .before .before .before .before in
+    let start = at .before .before .before in
+    rw (c .with-bit .ensures)
+    (mark-more (description (start .args .desc .now) (start .args .layout)) (start .args .c) (at .loop .word) (at .loop .bit) (at .loop .o)
+    (c .before .before .operand-at .result) (at .loop .inv) (omega arith) (c .before .before .operand-at .ensures))
 
--- src/lib.rt:179:1
 returns : tie.Need-returns Inv-loop μ-loop
-returns c = ?
+returns c =
+    let start = c .before .before .before .before in
+    mark-all (description (start .args .desc .now) (start .args .layout)) (start .args .c) (c .before .loop .word) (c .before .loop .bit) (c .before .loop .o)
+    (c .before .loop .inv) (omega arith)
 
 pub field-operands-spec : {M : Type 1} → statement M
 field-operands-spec =
@@ -61,14 +45,14 @@ field-operands-spec =
     (tie.spec
     Inv-loop
     μ-loop
-    cast-first
-    cast-n
-    loop-holds
-    add-operand-at
-    operand-at-requires
+    (λ c. search needs)
+    (λ c. mark-none _ _)
+    (λ c. search needs)
+    (λ c. omega arith)
+    (λ c κs. search needs)
     with-bit-requires
     mul-bit
-    add-o
-    loop-less
+    (λ c. omega arith)
+    (λ c. omega arith)
     loop-again
     returns)

@@ -11,7 +11,7 @@ returns c = rw (c .before .before .if1 .taken, c .field-fits .ensures, or-false,
 
 returns-2 : tie.Need-returns-2
 unfolding operandOk
-returns-2 c = rw (ne-eqb _ 0 (c .before .before .if1 .left))
+returns-2 c = rw (ne-eqb _ 0 (c .before .before .before .before .before .before .before .if1 .left))
 
 pub operand-ok-spec : {M : Type 1} → statement M
-operand-ok-spec = tie.close (tie.spec (λ c κs. search needs) returns returns-2)
+operand-ok-spec = tie.close (tie.spec (λ c κs. search needs) returns (λ c. search needs) returns-2)
