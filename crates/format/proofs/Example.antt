@@ -8,7 +8,7 @@ use Rattle.lists.specs.Tab.{tabFrom}
 use Rattle.format.specs.Layout.{sectionAt, layoutOf, namesFrom, constructorsFrom, operandsFrom, piecesFrom, textFrom, expressionsFrom}
 use Rattle.format.specs.Description.{Description, fieldsOf, namesOf, constructorsOf, operandsOf, piecesOf, textOf, expressionsOf}
 use Rattle.format.specs.Rules.{fieldOk, constructorOk, shapeOk, operandFits, pieceFits, shows, hasTable, fieldOperand, expressionFits, operandOk}
-use Rattle.format.specs.Check.{Parsed, formed, parse, checkOf, faultOf, partFault, badField, badName, badConstructor, badOperand, badPiece, badLetter, badExpression}
+use Rattle.format.specs.Check.{Parsed, formed, parse, checkOf, faultOf, partFault, lastFault, badField, badName, badConstructor, badOperand, badPiece, badLetter, badExpression}
 use Rattle.format.specs.Example.{S}
 
 pub sMeaning : Description
@@ -76,6 +76,6 @@ s-length = refl
 pub s-formed : parse S ≡ formed sMeaning
 unfolding parse checkOf layoutOf namesFrom constructorsFrom operandsFrom piecesFrom textFrom expressionsFrom sectionAt
     fieldsOf namesOf constructorsOf operandsOf piecesOf textOf expressionsOf tabFrom allBelow anyBelow firstBelow
-    faultOf partFault badField badName badConstructor badOperand badPiece badLetter badExpression
+    faultOf partFault lastFault badField badName badConstructor badOperand badPiece badLetter badExpression
     fieldOk constructorOk shapeOk operandFits pieceFits shows hasTable fieldOperand expressionFits operandOk sMeaning
 s-formed = refl

@@ -15,7 +15,7 @@ use Rattle.format.specs.Layout.{layoutOf}
 use Rattle.format.specs.Description.{Description, description, noField, noName, noConstructor, noOperand, noPiece}
 use Rattle.format.specs.Expression.{noExpression, writesExpression}
 use Rattle.format.specs.Rules.{fieldOk, nameOk, constructorOk, operandOk, pieceOk, letterOk, shapeOk, tableOk, tableAt, minimumOk, valueOk, rangeOk, operandFits, pieceFits}
-use Rattle.format.specs.Check.{allGood, named, faultOf, partFault, judged, checkOf, WellFormed, badField, badName, badConstructor, badOperand, badPiece, badLetter, badExpression}
+use Rattle.format.specs.Check.{allGood, named, faultOf, partFault, lastFault, judged, checkOf, WellFormed, badField, badName, badConstructor, badOperand, badPiece, badLetter, badExpression}
 use Rattle.format.specs.declared.Layout.{Layout}
 use Rattle.format.specs.declared.Constructor.{Constructor}
 use Rattle.format.specs.declared.LayoutResult.{LayoutResult}
@@ -44,7 +44,7 @@ passed k i n rest l e = go (ltb i n) refl e
 
 -- no fault: the places are handed on, and every record obeys its rules
 unfaulted : (d : Description) (l m : Layout) → faultOf d l ≡ Good m → (l ≡ m) × RulesHold d
-unfolding faultOf partFault badField badName badConstructor badOperand badPiece badLetter badExpression
+unfolding faultOf partFault lastFault badField badName badConstructor badOperand badPiece badLetter badExpression
 unfaulted d l m e =
     let fields = passed 1 (badField d) (length (d .fields)) _ m e in
     let names = passed 2 (badName d) (length (d .names)) _ m (fields .1) in

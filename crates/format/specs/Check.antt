@@ -49,13 +49,14 @@ badExpression d = firstBad writesExpression noExpression (d .expressions)
 abbrev pub named : ℕ → ℕ → ℕ → Checked → Checked
 named k i n rest = cond (ltb i n) (Fault k i) rest
 
--- the faults of the operands, pieces, text and expressions
+-- the faults of the text and the expressions
+unfoldable pub lastFault : Description → Layout → Checked
+lastFault d l = named 6 (badLetter d) (length (d .text)) (named 7 (badExpression d) (length (d .expressions)) (Good l))
+
+-- the faults of the operands and pieces, then those
 unfoldable pub partFault : Description → Layout → Checked
 partFault d l =
-    named 4 (badOperand d) (length (d .operands))
-    (named 5 (badPiece d) (length (d .pieces))
-    (named 6 (badLetter d) (length (d .text))
-    (named 7 (badExpression d) (length (d .expressions)) (Good l))))
+    named 4 (badOperand d) (length (d .operands)) (named 5 (badPiece d) (length (d .pieces)) (lastFault d l))
 
 -- "Then the first faulty record in file order is named. A description without a fault is well formed."
 unfoldable pub faultOf : Description → Layout → Checked

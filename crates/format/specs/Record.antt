@@ -2,7 +2,7 @@
 use Prim.Native.Nat.{ℕ, _+_}
 use mathlib.Core.List.{List}
 use Rattle.format.specs.Bytes.{byteAt, u16At, u32At, u64At}
-use Rattle.format.specs.Numbers.{fieldBytes, nameBytes, constructorBytes, operandBytes, pieceBytes, letterBytes}
+use Rattle.format.specs.Numbers.{fieldBytes, nameBytes, constructorBytes, operandBytes, pieceBytes, letterBytes, expressionBytes}
 use Rattle.format.specs.declared.Field.{Field}
 use Rattle.format.specs.declared.Name.{Name}
 use Rattle.format.specs.declared.Pattern.{Pattern}
@@ -15,6 +15,7 @@ use Rattle.format.specs.declared.ConstructorRead.{ConstructorRead}
 use Rattle.format.specs.declared.OperandRead.{OperandRead}
 use Rattle.format.specs.declared.PieceRead.{PieceRead}
 use Rattle.format.specs.declared.LetterRead.{LetterRead}
+use Rattle.format.specs.declared.ExpressionRead.{ExpressionRead}
 
 -- "source, width, order, low, high, look (a byte each), first name (2)"
 abbrev pub fieldAt : List ℕ → ℕ → Field
@@ -80,3 +81,6 @@ pieceRead b at = record { piece = pieceAt b at; next = record { at = at + pieceB
 
 abbrev pub letterRead : List ℕ → ℕ → LetterRead
 letterRead b at = record { letter = byteAt b at; next = record { at = at + letterBytes } }
+
+abbrev pub expressionRead : ℕ → ExpressionRead
+expressionRead at = record { place = at; next = record { at = at + expressionBytes } }

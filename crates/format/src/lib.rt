@@ -3,8 +3,8 @@ ghost use mathlib.Core.Path.{_≡_};
 ghost use Prim.Native.Nat.{_+_, _<_, _≤_};
 ghost use lib.ListN.{length};
 ghost use Rattle.format.specs.Bytes.{u16At, u32At, u64At};
-ghost use Rattle.format.specs.Numbers.{fieldBytes, nameBytes, constructorBytes, operandBytes, pieceBytes, letterBytes};
-ghost use Rattle.format.specs.Record.{fieldRead, nameRead, patternAt, constructorRead, operandRead, pieceRead, letterRead};
+ghost use Rattle.format.specs.Numbers.{fieldBytes, nameBytes, constructorBytes, operandBytes, pieceBytes, letterBytes, expressionBytes};
+ghost use Rattle.format.specs.Record.{fieldRead, nameRead, patternAt, constructorRead, operandRead, pieceRead, letterRead, expressionRead};
 ghost use Rattle.format.specs.Layout.{sectionAt};
 
 // The most records that a section holds, and the least that section 3 holds.
@@ -215,6 +215,12 @@ pub struct LetterRead {
     pub next: Cursor,
 }
 
+// An expression is read by its place, step by step.
+pub struct ExpressionRead {
+    pub place: usize,
+    pub next: Cursor,
+}
+
 fn wide(x: u8) -> u16
     ensures { λ r. ⌜ (r ≡ x) × (r < 256) ⌝ }
 {
@@ -398,6 +404,19 @@ impl Cursor {
             letter: s[at],
             next: Cursor {
                 at: at + (LETTER_BYTES as usize),
+            },
+        }
+    }
+
+    pub fn expression(self, s: &[u8]) -> ExpressionRead
+        requires { ⌜ self .at + expressionBytes ≤ length (now s) ⌝ }
+        ensures { λ r. ⌜ r ≡ expressionRead (self .at) ⌝ }
+    {
+        let at = self.at;
+        ExpressionRead {
+            place: at,
+            next: Cursor {
+                at: at + (EXPRESSION_BYTES as usize),
             },
         }
     }

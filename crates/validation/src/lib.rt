@@ -11,7 +11,7 @@ ghost use Rattle.format.specs.Bytes.{byteAt};
 ghost use Rattle.format.specs.Layout.{SectionsInBounds};
 ghost use Rattle.format.specs.Description.{description, piecesOf, noPiece};
 ghost use Rattle.format.specs.Rules.{pieceOk, letterOk};
-ghost use Rattle.format.specs.Check.{allGood, badField, badName, badConstructor, badOperand, badPiece, badLetter, partFault, faultOf, checkOf};
+ghost use Rattle.format.specs.Check.{allGood, badField, badName, badConstructor, badOperand, badPiece, badLetter, badExpression, lastFault, partFault, faultOf, checkOf};
 ghost use Rattle.rules.specs.Judging.{Marked};
 
 // The first faulty record of each section, or its count. The cursor goes from record to record.
@@ -195,7 +195,50 @@ fn bad_letter(desc: &[u8], layout: Layout) -> usize
     }
 }
 
-// The faults of the operands, pieces and text.
+fn bad_expression(desc: &[u8], layout: Layout) -> usize
+    requires { ⌜ SectionsInBounds (now desc) layout ⌝ }
+    ensures { λ r. ⌜ r ≡ badExpression (description (now (desc .entry)) layout) ⌝ }
+{
+    let n = layout.expressions.count;
+    let mut c = Cursor {
+        at: layout.expressions.start,
+    };
+    let mut i = 0;
+    while i < n {
+        let r = c.expression(desc);
+        if expressions::writes(desc, r.place) {
+            c = r.next;
+            i += 1;
+        } else {
+            return i;
+        }
+    }
+    n
+}
+
+// The faults of the text and the expressions.
+fn last_fault(desc: &[u8], layout: Layout) -> Checked
+    requires { ⌜ SectionsInBounds (now desc) layout ⌝ }
+    ensures { λ r. ⌜ r ≡ lastFault (description (now (desc .entry)) layout) layout ⌝ }
+{
+    let letter = bad_letter(desc, layout);
+    if letter < layout.text.count {
+        return Checked::Fault {
+            section: 6,
+            record: letter,
+        };
+    }
+    let expression = bad_expression(desc, layout);
+    if expression < layout.expressions.count {
+        return Checked::Fault {
+            section: 7,
+            record: expression,
+        };
+    }
+    Checked::Good(layout)
+}
+
+// The faults of the operands and pieces, then those.
 fn part_fault(desc: &[u8], layout: Layout) -> Checked
     requires { ⌜ SectionsInBounds (now desc) layout ⌝ }
     ensures { λ r. ⌜ r ≡ partFault (description (now (desc .entry)) layout) layout ⌝ }
@@ -214,14 +257,7 @@ fn part_fault(desc: &[u8], layout: Layout) -> Checked
             record: piece,
         };
     }
-    let letter = bad_letter(desc, layout);
-    if letter < layout.text.count {
-        return Checked::Fault {
-            section: 6,
-            record: letter,
-        };
-    }
-    Checked::Good(layout)
+    last_fault(desc, layout)
 }
 
 fn first_fault(desc: &[u8], layout: Layout) -> Checked

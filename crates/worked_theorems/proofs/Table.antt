@@ -9,7 +9,7 @@ use Rattle.bits.specs.Bits.{onesOf}
 use Rattle.format.specs.Layout.{sectionAt, layoutOf, namesFrom, constructorsFrom, operandsFrom, piecesFrom, textFrom}
 use Rattle.format.specs.Description.{fieldsOf, namesOf, constructorsOf, operandsOf, piecesOf, textOf}
 use Rattle.format.specs.Rules.{fieldOk, constructorOk, shapeOk, operandFits, pieceFits, shows, hasTable, operandOk}
-use Rattle.format.specs.Check.{checkOf, faultOf, partFault, badField, badName, badConstructor, badOperand, badPiece, badLetter}
+use Rattle.format.specs.Check.{checkOf, faultOf, partFault, lastFault, badField, badName, badConstructor, badOperand, badPiece, badLetter, badExpression}
 use Rattle.format.specs.Tables.{tableFirst, tableEnd}
 use Rattle.patterns.specs.Matching.{contextAgrees, matches, agrees, masksMissing, cutOff}
 use Rattle.patterns.specs.Relations.{insideBits, inside, meetBits, overlap, weight}
@@ -65,7 +65,7 @@ unfolding holds cases allHold same asks clashes bytes rows two three halves choo
     sectionAt layoutOf namesFrom constructorsFrom operandsFrom piecesFrom textFrom
     fieldsOf namesOf constructorsOf operandsOf piecesOf textOf
     fieldOk constructorOk shapeOk operandFits pieceFits shows hasTable operandOk
-    checkOf faultOf partFault badField badName badConstructor badOperand badPiece badLetter
+    checkOf faultOf partFault lastFault badField badName badConstructor badOperand badPiece badLetter badExpression
     tableFirst tableEnd contextAgrees matches agrees masksMissing cutOff insideBits inside meetBits overlap weight
     short matching innermost taken alone choose crossing third clashing partner firstClash clashOf
     acceptanceOf patternFrom askIn askOf clashIn clashAnswer formOf walkOf nodeOk leafOk kindAt bitAt placeAt

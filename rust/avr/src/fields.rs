@@ -16,8 +16,7 @@ fn registers(numbers: impl Iterator<Item = u32>) -> Vec<String> {
     numbers.map(|number| format!("r{number}")).collect()
 }
 
-/// Digits of hexadecimal numbers, for numbers of which the bits do not stand
-/// together or that are shown with leading zeros.
+/// Digits of hexadecimal numbers, for numbers that are shown with leading zeros.
 const DIGITS: [&str; 16] = [
     "0", "1", "2", "3", "4", "5", "6", "7", "8", "9", "a", "b", "c", "d", "e", "f",
 ];
@@ -57,18 +56,6 @@ fn add_digits(avr: &mut Builder) {
         let field = word(low, low + 3).names(UPPER_DIGITS);
         avr.field(&format!("k16 digit {digit}"), field);
     }
-    // Addresses are shown in bytes, twice the number of words.
-    let even = DIGITS.into_iter().step_by(2);
-    avr.field("k22 digit 0", two_words(16, 18).names(even));
-    avr.field("k22 digit 1", two_words(19, 22).names(DIGITS));
-    avr.field("k22 digit 2", two_words(23, 26).names(DIGITS));
-    avr.field("k22 digit 3", two_words(27, 30).names(DIGITS));
-    for low in 0..4 {
-        // The two upper bits of the digit; the lower ones stand elsewhere.
-        let digits = DIGITS.into_iter().skip(low).step_by(4);
-        avr.field(&format!("k22 digit 4, {low}"), word(4, 5).names(digits));
-    }
-    avr.field("k22 digit 5", word(6, 8));
 }
 
 fn add_numbers(avr: &mut Builder) {
@@ -78,11 +65,16 @@ fn add_numbers(avr: &mut Builder) {
         let numbers = (first..first + 8).map(|number: u32| number.to_string());
         avr.field(&format!("q from {first}"), word(0, 2).names(numbers));
     }
-    avr.field("k12", word(0, 11).signed());
-    // By names, to show bytes as objdump does; the field counts words.
+    // Displacements count words, and objdump shows bytes: seven bits by names.
+    avr.field("k12 words", word(0, 11).signed());
+    avr.field("k7 words", word(3, 9).signed());
     let bytes = (0..64).chain(-64..0).map(|words| 2 * words);
     let displacements = bytes.map(|bytes: i32| format!(".{bytes:+}"));
-    avr.field("k7", word(3, 9).names(displacements));
+    avr.field("k7 bytes", word(3, 9).names(displacements));
+    avr.field("k22 upper", word(4, 8));
+    avr.field("k22 bit 16", word(0, 0));
+    avr.field("k22 lower", two_words(16, 31));
+    avr.field("k16 word", word(0, 15));
     let flags = ["c", "z", "n", "v", "s", "h", "t", "i"];
     avr.field("s", word(4, 6).names(flags));
     let set = ["cs", "eq", "mi", "vs", "lt", "hs", "ts", "ie"];

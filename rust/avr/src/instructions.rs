@@ -1,6 +1,6 @@
 //! The instructions.
 
-use builder::{Builder, Operand};
+use builder::{Builder, Expression, Operand};
 
 use crate::{words, ROOT};
 
@@ -108,20 +108,26 @@ const INSTRUCTIONS: &[(&str, &str)] = &[
     ("1111 111d dddd 0bbb", "sbrs {d}, {b}"),
 ];
 
-/// With an address in the second word.
+/// With an address of data in the second word.
 const DIRECT: [(&str, &str); 2] = [
-    ("1001 000d dddd 0000", "lds {d}, {k16}"),
-    ("1001 001d dddd 0000", "sts {k16}, {d}"),
+    ("1001 000d dddd 0000", "lds {d}, {k16} ; {address}"),
+    ("1001 001d dddd 0000", "sts {k16}, {d} ; {address}"),
 ];
+
+/// Where objdump has the addresses of data begin.
+const DATA: i64 = 0x80_0000;
 
 pub fn add(avr: &mut Builder) {
     for (bits, shows) in INSTRUCTIONS {
         avr.constructor(ROOT, words(bits, shows));
     }
     for (bits, shows) in DIRECT {
+        let address = Expression::field("k16 word") + DATA;
         let constructor = words(bits, shows)
             .operand(Operand::new("d"))
-            .operand(Operand::new("k16").offset(2));
+            .operand(Operand::new("k16").offset(2))
+            .operand(Operand::new("k16 word").offset(2))
+            .operand(Operand::computed("address", address));
         avr.constructor(ROOT, constructor);
     }
 }

@@ -1,6 +1,7 @@
-//! The inner tables: numbers and registers of which the bits stand apart.
+//! The inner tables: numbers and registers of which the bits stand apart, and
+//! where jumps lead.
 
-use builder::Builder;
+use builder::{Builder, Expression, Operand};
 
 use crate::words;
 
@@ -17,6 +18,7 @@ pub fn add(avr: &mut Builder) {
     let k16 = "0x{k16 digit 3}{k16 digit 2}{k16 digit 1}{k16 digit 0}";
     avr.constructor("k16", words(ANY_WORD, k16));
     add_displacement(avr);
+    add_relative_jumps(avr);
     add_address(avr);
 }
 
@@ -30,30 +32,39 @@ fn add_displacement(avr: &mut Builder) {
     }
 }
 
-/// An address in bytes without leading zeros: each pattern lies inside the one
-/// before and takes one digit less.
+/// The displacement in bytes and, as objdump's comment, the target. A computed
+/// number has no plus sign, so one stands before it where the sign bit is 0.
+fn add_relative_jumps(avr: &mut Builder) {
+    let k12 = |bits, shows| {
+        words(bits, shows)
+            .operand(Operand::computed("bytes", in_bytes("k12 words")))
+            .operand(target("k12 words"))
+    };
+    avr.constructor("k12", k12("....0kkk kkkkkkkk", ".+{bytes} ; {target}"));
+    avr.constructor("k12", k12("....1kkk kkkkkkkk", ".{bytes} ; {target}"));
+    let k7 = words("......kk kkkkk...", "{k7 bytes} ; {target}");
+    avr.constructor("k7", k7.operand(target("k7 words")));
+}
+
+fn in_bytes(words: &str) -> Expression {
+    Expression::field(words) * 2
+}
+
+/// Where a relative jump leads: 32 bits of it, as objdump has it.
+fn target(words: &str) -> Operand {
+    let target = (Expression::next() + in_bytes(words)) & 0xffff_ffff;
+    Operand::computed("target", target)
+}
+
+/// Three runs of bits count words and are shown in bytes, again as the comment;
+/// objdump has 0 without 0x.
 fn add_address(avr: &mut Builder) {
-    for low in 0..4 {
-        let bits = format!("{low:02b}");
-        let (bit_16, bit_15) = bits.split_at(1);
-        let bits = format!("........ ..kk...{bit_16} | {bit_15}....... ........");
-        let shows = format!("{{k22 digit 4, {low}}}");
-        avr.constructor("k22 digit 4", words(&bits, &shows));
-    }
-    let digits = [
-        ".......k kkkk...k | kkkkkkkk kkkkkkkk",
-        ".......0 00kk...k | kkkkkkkk kkkkkkkk",
-        ".......0 0000...0 | 0kkkkkkk kkkkkkkk",
-        ".......0 0000...0 | 00000kkk kkkkkkkk",
-        ".......0 0000...0 | 00000000 0kkkkkkk",
-        ".......0 0000...0 | 00000000 00000kkk",
-    ];
-    for (zeros, bits) in digits.into_iter().enumerate() {
-        let shown = (0..6 - zeros)
-            .rev()
-            .map(|digit| format!("{{k22 digit {digit}}}"));
-        let shows = format!("0x{}", shown.collect::<String>());
-        avr.constructor("k22", words(bits, &shows));
-    }
-    avr.constructor("k22", words(".......0 0000...0 | 00000000 00000000", "0"));
+    let field = Expression::field;
+    let joined = field("k22 upper") << 17 | field("k22 bit 16") << 16 | field("k22 lower");
+    let bytes = |name| Operand::computed(name, joined.clone() * 2);
+    let shows = "{bytes} ; {target}";
+    let any = words(&format!("{ANY_WORD} | {ANY_WORD}"), shows).operand(bytes("bytes"));
+    avr.constructor("k22", any.operand(bytes("target")));
+    let zero = words(".......0 0000...0 | 00000000 00000000", "0 ; {target}");
+    avr.constructor("k22", zero.operand(bytes("target")));
 }

@@ -12,6 +12,11 @@ fn code(words: &[u16]) -> Vec<u8> {
     words.iter().flat_map(|word| word.to_le_bytes()).collect()
 }
 
+fn shown(d: &Description, address: u32, words: &[u16]) -> String {
+    let text = decode_text(d, 0, address, &code(words)).unwrap();
+    String::from_utf8(text).unwrap()
+}
+
 #[test]
 fn no_table_clashes() {
     let d = description();
@@ -41,14 +46,14 @@ fn texts() {
         (&[0x8218], "st Y, r1"),
         (&[0xa219], "std Y+33, r1"),
         (&[0x91ad], "ld r26, X+"),
-        (&[0x9000, 0x00ab], "lds r0, 0x00AB"),
-        (&[0x93f0, 0xc0de], "sts 0xC0DE, r31"),
-        (&[0x940c, 0x0000], "jmp 0"),
-        (&[0x940c, 0x0007], "jmp 0xe"),
-        (&[0x940c, 0x0008], "jmp 0x10"),
-        (&[0x940c, 0x8000], "jmp 0x10000"),
-        (&[0x940f, 0x0000], "call 0x20000"),
-        (&[0x95ff, 0xffff], "call 0x7ffffe"),
+        (&[0x9000, 0x00ab], "lds r0, 0x00AB ; 0x8000ab"),
+        (&[0x93f0, 0xc0de], "sts 0xC0DE, r31 ; 0x80c0de"),
+        (&[0x940c, 0x0000], "jmp 0 ; 0x0"),
+        (&[0x940c, 0x0007], "jmp 0xe ; 0xe"),
+        (&[0x940c, 0x0008], "jmp 0x10 ; 0x10"),
+        (&[0x940c, 0x8000], "jmp 0x10000 ; 0x10000"),
+        (&[0x940f, 0x0000], "call 0x20000 ; 0x20000"),
+        (&[0x95ff, 0xffff], "call 0x7ffffe ; 0x7ffffe"),
         (&[0x9478], "sei"),
         (&[0x94f8], "cli"),
         (&[0x94fb], "des 15"),
@@ -56,22 +61,52 @@ fn texts() {
         (&[0x98ff], "cbi 0x1f, 7"),
         (&[0xb7ef], "in r30, 0x3f"),
         (&[0xbe0f], "out 0x3f, r0"),
-        (&[0xc800], "rjmp -2048"),
-        (&[0xd7ff], "rcall 2047"),
-        (&[0xf3f9], "breq .-2"),
-        (&[0xf5f9], "brne .+126"),
+        (&[0xc800], "rjmp .-0x1000 ; 0x2"),
+        (&[0xd7ff], "rcall .+0xffe ; 0x2000"),
+        (&[0xf3f9], "breq .-2 ; 0x1000"),
+        (&[0xf5f9], "brne .+126 ; 0x1080"),
     ];
     for (words, text) in expected {
-        let shown = decode_text(&d, 0, &code(words)).unwrap();
-        assert_eq!(String::from_utf8_lossy(&shown), text);
+        assert_eq!(shown(&d, 0x1000, words), text);
     }
+}
+
+/// Targets have 32 bits, as objdump shows them.
+#[test]
+fn targets_past_the_ends() {
+    let d = description();
+    let jump = |address, words| shown(&d, address, &[words]);
+    assert_eq!(jump(0, 0xc000), "rjmp .+0x0 ; 0x2");
+    assert_eq!(jump(0, 0xcffe), "rjmp .-0x4 ; 0xfffffffe");
+    assert_eq!(jump(0x10, 0xf201), "brcs .-128 ; 0xffffff92");
+    assert_eq!(jump(0xffff_fff8, 0xd7ff), "rcall .+0xffe ; 0xff8");
+    assert_eq!(jump(0xffff_fffe, 0xc000), "rjmp .+0x0 ; 0x0");
+}
+
+/// An address has one row with its value.
+#[test]
+fn rows_of_addresses() {
+    let d = description();
+    let values = |address, words: &[u16]| -> Vec<i64> {
+        let rows = decode(&d, 0, address, &code(words)).unwrap();
+        let computed = rows.iter().filter(|row| row[0] == 3);
+        computed.map(|row| row[3]).collect()
+    };
+    assert_eq!(values(0x1000, &[0xcfff]), [-2, 0x1000]);
+    assert_eq!(values(0x1000, &[0xf3f9]), [0x1000]);
+    assert_eq!(values(0, &[0x95ff, 0x1234]), [0x7e_2468, 0x7e_2468]);
+    assert_eq!(values(0, &[0x940c, 0]), [0]);
+    assert_eq!(values(0, &[0x9000, 0x00ab]), [0x80_00ab]);
 }
 
 #[test]
 fn the_second_word_is_missing() {
     let d = description();
     let short = |words: &[u16], place| {
-        assert_eq!(decode(&d, 0, &code(words)), Err(Refusal::Short { place }));
+        assert_eq!(
+            decode(&d, 0, 0, &code(words)),
+            Err(Refusal::Short { place })
+        );
     };
     short(&[], 0);
     short(&[0x9000], 2);
@@ -84,7 +119,7 @@ fn mnemonics_of_all_opcodes() {
     let d = description();
     let mut counts: BTreeMap<String, usize> = BTreeMap::new();
     for opcode in 0..=u16::MAX {
-        let mnemonic = match decode_text(&d, 0, &code(&[opcode, 0x1234])) {
+        let mnemonic = match decode_text(&d, 0, 0, &code(&[opcode, 0x1234])) {
             Ok(text) => {
                 let text = String::from_utf8(text).unwrap();
                 text.split(' ').next().unwrap().to_string()
@@ -138,11 +173,11 @@ fn a_listing() {
     ]));
     let expected = "\
 00000000: ldi r16, 0x05
-00000002: sts 0x0100, r16
+00000002: sts 0x0100, r16 ; 0x800100
 00000006: dec r16
-00000008: brne .-8
-0000000a: call 0x80
-0000000e: rjmp -1
+00000008: brne .-8 ; 0x2
+0000000a: call 0x80 ; 0x80
+0000000e: rjmp .-0x2 ; 0xe
 ";
     assert_eq!(String::from_utf8_lossy(&listing(&input)), expected);
 }

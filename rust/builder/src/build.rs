@@ -1,6 +1,7 @@
 //! From values to bytes.
 
-use crate::constructor::{Constructor, Operand};
+use crate::constructor::{Constructor, Of, Operand};
+use crate::expression::Record;
 use crate::field::{Field, Look};
 use crate::limits;
 use crate::pattern::Pattern;
@@ -115,7 +116,7 @@ impl Builder {
             operands.len()
         );
         let placed = (0..operands.len()).map(|i| {
-            self.place(tables, &operands[..i], &operands[i])
+            self.place(tables, &operands, i)
                 .map_err(|refusal| refusal.of(format!("operand {}", operands[i].name)))
         });
         Ok(Resolved {
@@ -128,19 +129,10 @@ impl Builder {
         })
     }
 
-    fn place(
-        &self,
-        tables: &Tables,
-        earlier: &[Operand],
-        operand: &Operand,
-    ) -> Result<Placed, Refusal> {
-        let Some(target) = self.find(tables, &operand.of) else {
-            let words = format!(
-                "{} is no field and no table that has a constructor",
-                operand.of
-            );
-            return Err(Refusal::new(words));
-        };
+    /// One of a constructor's operands.
+    fn place(&self, tables: &Tables, operands: &[Operand], i: usize) -> Result<Placed, Refusal> {
+        let (earlier, operand) = (&operands[..i], &operands[i]);
+        let target = self.target(tables, operands, operand)?;
         ensure!(
             number_of(earlier, &operand.name).is_none(),
             "two operands have this name"
@@ -155,10 +147,15 @@ impl Builder {
             offset <= limits::OFFSET,
             "an offset of {offset}, and 15 is the most"
         );
-        if let Target::Field(field) = target {
+        let placeless = match target {
+            Target::Field(field) if self.fields[field].1.is_context() => Some("a context field"),
+            Target::Computed(_) => Some("a computed operand"),
+            _ => None,
+        };
+        if let Some(what) = placeless {
             ensure!(
-                !self.fields[field].1.is_context() || anchor == 0 && offset == 0,
-                "a context field has no place in the instruction"
+                anchor == 0 && offset == 0,
+                "{what} has no place in the instruction"
             );
         }
         Ok(Placed {
@@ -167,6 +164,34 @@ impl Builder {
             offset,
         })
     }
+
+    fn target(
+        &self,
+        tables: &Tables,
+        operands: &[Operand],
+        operand: &Operand,
+    ) -> Result<Target, Refusal> {
+        match &operand.of {
+            Of::Named(of) => self.find(tables, of).ok_or_else(|| {
+                let words = format!("{of} is no field and no table that has a constructor");
+                Refusal::new(words)
+            }),
+            Of::Computed(expression) => {
+                let number = |name: &str| self.number_of_field(operands, name);
+                Ok(Target::Computed(expression.record(number)?))
+            }
+        }
+    }
+
+    fn number_of_field(&self, operands: &[Operand], name: &str) -> Result<u8, Refusal> {
+        let is_field = |number: &u8| match &operands[usize::from(*number) - 1].of {
+            Of::Named(of) => self.find_field(of).is_some(),
+            Of::Computed(_) => false,
+        };
+        number_of(operands, name)
+            .filter(is_field)
+            .ok_or_else(|| Refusal::new(format!("{name} is no field operand")))
+    }
 }
 
 fn at_most(limit: usize, count: usize, what: &str) -> Result<(), Refusal> {
@@ -174,14 +199,17 @@ fn at_most(limit: usize, count: usize, what: &str) -> Result<(), Refusal> {
     Ok(())
 }
 
-/// The operands that were introduced, then those that are only shown.
+/// The operands that were introduced, then those that are only shown, then those
+/// that only expressions name.
 fn all_operands(introduced: &[Operand], parts: &[Part]) -> Vec<Operand> {
     let mut all = introduced.to_vec();
-    for part in parts {
-        if let Part::Operand(name) = part {
-            if number_of(&all, name).is_none() {
-                all.push(Operand::new(name));
-            }
+    let shown = parts.iter().filter_map(|part| match part {
+        Part::Text(_) => None,
+        Part::Operand(name) => Some(name.as_str()),
+    });
+    for name in shown.chain(introduced.iter().flat_map(Operand::fields)) {
+        if number_of(&all, name).is_none() {
+            all.push(Operand::new(name));
         }
     }
     all
@@ -220,10 +248,10 @@ struct Resolved<'a> {
     pieces: Vec<Shown>,
 }
 
-#[derive(Clone, Copy)]
 enum Target {
     Field(usize),
     Table(usize),
+    Computed(Record),
 }
 
 struct Placed {
@@ -238,7 +266,7 @@ enum Shown {
     Operand(u8),
 }
 
-/// The records of the six sections.
+/// The records of the sections.
 #[derive(Default)]
 struct Sections {
     fields: Vec<[u8; 8]>,
@@ -247,6 +275,7 @@ struct Sections {
     operands: Vec<[u8; 4]>,
     pieces: Vec<[u8; 4]>,
     text: Vec<u8>,
+    expressions: Vec<Record>,
 }
 
 impl Sections {
@@ -281,6 +310,7 @@ impl Sections {
             let (kind, index) = match operand.target {
                 Target::Field(field) => (0, field as u8),
                 Target::Table(table) => (1, numbers[table]),
+                Target::Computed(record) => (2, place(&mut self.expressions, &[record]) as u8),
             };
             [kind, index, operand.anchor, operand.offset]
         };
@@ -307,6 +337,7 @@ impl Sections {
         at_most(limits::OPERANDS, self.operands.len(), "operands")?;
         at_most(limits::PIECES, self.pieces.len(), "pieces")?;
         at_most(limits::TEXT, self.text.len(), "characters of text")?;
+        at_most(limits::EXPRESSIONS, self.expressions.len(), "expressions")?;
         let mut bytes = Vec::new();
         add_section(&mut bytes, &self.fields);
         add_section(&mut bytes, &self.names);
@@ -314,6 +345,10 @@ impl Sections {
         add_section(&mut bytes, &self.operands);
         add_section(&mut bytes, &self.pieces);
         add_section(&mut bytes, self.text.as_chunks::<1>().0);
+        // A description may end here.
+        if !self.expressions.is_empty() {
+            add_section(&mut bytes, &self.expressions);
+        }
         Ok(bytes)
     }
 }

@@ -131,6 +131,15 @@ impl Operand {
         }
     }
 
+    /// What its expression names.
+    pub(crate) fn fields(&self) -> impl Iterator<Item = &str> {
+        let expression = match &self.of {
+            Of::Named(_) => None,
+            Of::Computed(expression) => Some(expression),
+        };
+        expression.into_iter().flat_map(Expression::fields)
+    }
+
     /// Its name, where the constructor has the field or table twice.
     pub fn named(self, name: &str) -> Operand {
         Operand {

@@ -28,8 +28,10 @@ enum Step {
 /// A kind and a value of eight bytes.
 const STEP: usize = 9;
 
-/// The number of steps, and all that there can be.
-pub(crate) type Record = [u8; 1 + STEP * limits::STEPS];
+/// The number of steps, then as many as there can be.
+const RECORD: usize = 1 + STEP * limits::STEPS;
+
+pub(crate) type Record = [u8; RECORD];
 
 impl Expression {
     /// The value of a field operand by its name. A name that nothing else
@@ -74,7 +76,7 @@ impl Expression {
             count <= limits::STEPS,
             "an expression of {count} steps, and 16 is the most"
         );
-        let mut record = [0; _];
+        let mut record = [0; RECORD];
         record[0] = count as u8;
         for (step, bytes) in self.steps.iter().zip(record[1..].chunks_mut(STEP)) {
             let (kind, value) = match step {

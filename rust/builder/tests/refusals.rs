@@ -1,6 +1,8 @@
 //! Everything that the builder refuses, in its words.
 
-use builder::{Builder, Constructor, Field, Operand};
+use std::ops::Range;
+
+use builder::{Builder, Constructor, Expression, Field, Operand};
 
 /// A sound description for the fault to be put in.
 fn sound() -> Builder {
@@ -210,6 +212,56 @@ fn operands() {
         constructor.operand(Operand::new("byte").named(&i.to_string()))
     });
     constructor(nine, "x", "9 operands, and 8 is the most");
+}
+
+#[test]
+fn computed_operands() {
+    let byte = || Expression::field("byte");
+    let computed = |expression| x().operand(Operand::computed("c", expression));
+    let refused = |expression, words: &str| {
+        constructor(computed(expression), "x", &format!("operand c: {words}"));
+    };
+    refused(byte() << 64, "a shift by 64, and 63 is the most");
+    refused(byte() >> 255, "a shift by 255, and 63 is the most");
+    let sum = (0..8).fold(byte(), |sum, _| sum + 1);
+    refused(sum, "an expression of 17 steps, and 16 is the most");
+    refused(Expression::field("bite"), "bite is no field operand");
+    refused(Expression::field("inner"), "inner is no field operand");
+    refused(Expression::field("c"), "c is no field operand");
+    let place = "operand c: a computed operand has no place in the instruction";
+    let operand = || Operand::computed("c", byte());
+    constructor(x().operand(operand().offset(1)), "x", place);
+    let after = x().operand(Operand::new("byte"));
+    constructor(after.operand(operand().after("byte")), "x", place);
+    let words = "operand c: two operands have this name";
+    constructor(x().operand(operand()).operand(operand()), "x", words);
+    // The name is a computed operand's, though a field has it too.
+    let words = "operand byte: byte is no field operand";
+    let same = x().operand(Operand::computed("byte", byte() + 1));
+    constructor(same, "x", words);
+    let seven = (0..7).fold(computed(byte()), |constructor, i| {
+        constructor.operand(Operand::new("mode").named(&i.to_string()))
+    });
+    constructor(seven, "x", "9 operands, and 8 is the most");
+}
+
+#[test]
+fn a_limit_of_expressions() {
+    let mut set = sound();
+    for first in (0..256).step_by(4) {
+        add_expressions(&mut set, first..first + 4);
+    }
+    assert!(set.build("root").is_ok());
+    add_expressions(&mut set, 0..4);
+    assert!(set.build("root").is_ok());
+    add_expressions(&mut set, 256..257);
+    refused(&set, "257 expressions, and 256 is the most");
+}
+
+/// Adds a constructor with a constant for each number.
+fn add_expressions(set: &mut Builder, numbers: Range<i64>) {
+    let operand = |i: i64| Operand::computed(&i.to_string(), Expression::from(i));
+    set.constructor("root", numbers.map(operand).fold(x(), Constructor::operand));
 }
 
 #[test]

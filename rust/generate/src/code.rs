@@ -2,6 +2,7 @@
 
 use reference::{Constructor, Description, Pattern};
 
+use crate::operators::EDGE_ADDRESSES;
 use crate::Rng;
 
 /// Up to `longest` bytes of code: bytes that match constructors, the root's
@@ -31,6 +32,15 @@ pub fn context(rng: &mut Rng, d: &Description) -> u32 {
         0 => 0,
         1 => pattern.context_value,
         _ => pattern.context_value | rng.word() as u32 & !pattern.context_mask,
+    }
+}
+
+/// An address, often one at which something may change.
+pub fn address(rng: &mut Rng) -> u32 {
+    let any = rng.word() as u32;
+    match rng.below(3) {
+        0 => any,
+        _ => rng.pick(&EDGE_ADDRESSES),
     }
 }
 

@@ -4,6 +4,7 @@
 use reference::{Constructor, Description, Field, Operand, Pattern};
 
 use crate::example::operand;
+use crate::expressions::compute_some;
 use crate::meeting::Bits;
 use crate::well_formed::{
     add_unused_operand, field, keep_limit, name, piece_range, place_empty_ranges, shared_operands,
@@ -57,6 +58,9 @@ pub fn decodable(rng: &mut Rng, size: Size, leaning: Leaning) -> Description {
         }
     }
     place_empty_ranges(rng, &mut d);
+    if rng.once_in(2) {
+        compute_some(rng, &mut d);
+    }
     assert!(
         reference::check(&bytes(&d)).is_ok(),
         "not well formed: {d:?}"

@@ -1,7 +1,9 @@
 //! Fixed descriptions: S of the rules, with a tree of its table 1, and one that
 //! uses every feature.
 
-use reference::{Constructor, Description, Field, Name, Operand, Pattern, Piece};
+use reference::{
+    Constructor, Description, Expression, Field, Name, Operand, Pattern, Piece, Step, STEP_LIMIT,
+};
 
 use crate::tree::{tree_bytes, Node, NONE};
 
@@ -49,6 +51,20 @@ pub fn name(text_offset: u16, length: u8) -> Name {
         text_offset,
         length,
     }
+}
+
+pub fn step(kind: u8, value: i64) -> Step {
+    Step { kind, value }
+}
+
+/// An expression of these steps, at most 16.
+pub fn expression(steps: &[Step]) -> Expression {
+    let mut expression = Expression {
+        step_count: steps.len() as u8,
+        steps: [Step::default(); STEP_LIMIT],
+    };
+    expression.steps[..steps.len()].copy_from_slice(steps);
+    expression
 }
 
 /// A constructor without context bits; ranges are (first, count).
@@ -110,6 +126,7 @@ pub fn description_s() -> Description {
             literal(12, 4),
         ],
         text: b"inc radd r, halt".to_vec(),
+        expressions: vec![],
     }
 }
 
@@ -189,6 +206,7 @@ pub fn full_featured() -> Description {
             shown(0),
         ],
         text: b"ld st,[mov ]+~ !".to_vec(),
+        expressions: vec![],
     };
     d.fields[0].first_name = 4;
     d.fields[4].first_name = 1;

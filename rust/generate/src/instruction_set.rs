@@ -91,7 +91,7 @@ pub fn instruction_stream(
     let (mut code, mut starts) = (Vec::new(), Vec::new());
     while starts.len() < count {
         let (bytes, _) = planted(rng, d, 16);
-        if let Ok(rows) = reference::decode(d, context, &bytes) {
+        if let Ok(rows) = reference::decode(d, context, 0, &bytes) {
             let length = rows[0][3] as usize;
             starts.push(code.len());
             code.extend(&bytes[..length]);

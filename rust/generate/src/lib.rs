@@ -6,11 +6,13 @@ mod code;
 mod counts;
 mod decodable;
 pub mod example;
+mod expressions;
 mod instruction_set;
 mod limits;
 mod longest;
 mod meeting;
 mod mutate;
+mod operators;
 mod patterns;
 mod planted;
 mod rng;
@@ -25,15 +27,20 @@ mod well_formed;
 mod write;
 
 pub use allowed::{Change, CHANGES};
-pub use code::{code, context, input, Input};
+pub use code::{address, code, context, input, Input};
 pub use counts::count_faults;
 pub use decodable::{decodable, Leaning};
 pub use instruction_set::{
     instruction_set, instruction_starts, instruction_stream, nested_instruction_set,
 };
+pub use expressions::{compute_some, some_expression};
 pub use limits::{limits, Case};
-pub use longest::longest;
+pub use longest::{longest, longest_of_all};
 pub use mutate::{change_bytes, change_counts, change_records, insert_or_remove, random_records};
+pub use operators::{
+    edge_values, expression_table, operators_on_addresses, operators_on_constants, EDGE_ADDRESSES,
+    TABLE_EXPRESSIONS,
+};
 pub use planted::{planted, planted_stream};
 pub use rng::Rng;
 pub use row_counts::with_rows;
@@ -48,4 +55,4 @@ pub use tree_shapes::{
     all_bits, any_place, deep_tree, grow, largest_tree, prune, random_tree, replace, Shape,
 };
 pub use well_formed::{well_formed, Size};
-pub use write::{bytes, counts, section_starts, LIMITS, RECORD_SIZES};
+pub use write::{bytes, counts, section_starts, LIMITS, RECORD_SIZES, SECTIONS};

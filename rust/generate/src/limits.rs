@@ -1,10 +1,10 @@
 //! Sections at their limits, and one past them.
 
-use reference::{Constructor, Description, Fault, Pattern, WHOLE_SECTION};
+use reference::{Constructor, Description, Fault, Pattern, Step, WHOLE_SECTION};
 
-use crate::example::{description_s, field, full_featured, name, operand, shown};
-use crate::longest::longest;
-use crate::write::{bytes, counts, LIMITS};
+use crate::example::{description_s, expression, field, full_featured, name, operand, shown};
+use crate::longest::{longest, longest_of_all};
+use crate::write::{bytes, counts, LIMITS, SECTIONS};
 
 /// A description with what the check must say of it.
 pub struct Case {
@@ -18,12 +18,13 @@ pub fn limits() -> Vec<Case> {
         ("least", least()),
         ("S", description_s()),
         ("full-featured", full_featured()),
-        ("longest", longest()),
+        ("longest of six", longest()),
+        ("longest", longest_of_all()),
     ];
     let mut cases = Vec::new();
     for (name, base) in &bases {
         cases.push(case(name.to_string(), base, None));
-        for section in 1..=6 {
+        for section in 1..=SECTIONS {
             let limit = LIMITS[section - 1];
             let fault = Fault {
                 section: section as u16,
@@ -83,7 +84,8 @@ fn filled(base: &Description, section: usize, count: usize) -> Description {
             3 => d.constructors.extend(base.constructors.last().copied()),
             4 => d.operands.push(operand(1, 0, 0, 0)),
             5 => d.pieces.push(shown(0)),
-            _ => d.text.push(b' '),
+            6 => d.text.push(b' '),
+            _ => d.expressions.push(expression(&[Step::default()])),
         }
     }
     d

@@ -3,14 +3,14 @@
 use reference::Description;
 
 use crate::counts::with_count;
-use crate::write::{bytes, counts, section_starts, LIMITS, RECORD_SIZES};
+use crate::write::{bytes, counts, section_starts, sections, LIMITS, RECORD_SIZES, SECTIONS};
 use crate::Rng;
 
 /// Changes one or a few bytes of records, so that the counts still hold.
 pub fn change_records(d: &Description, rng: &mut Rng) -> Vec<u8> {
     let mut changed = bytes(d);
     for _ in 0..few(rng) {
-        let section = rng.index_where(6, |i| counts(d)[i] > 0);
+        let section = rng.index_where(SECTIONS, |i| counts(d)[i] > 0);
         if let Some(section) = section {
             let record = rng.below(counts(d)[section]);
             let start = section_starts(d)[section] + 2 + record * RECORD_SIZES[section];
@@ -35,7 +35,7 @@ pub fn change_bytes(d: &Description, rng: &mut Rng) -> Vec<u8> {
 /// kept right.
 pub fn insert_or_remove(d: &Description, rng: &mut Rng) -> Vec<u8> {
     let mut changed = bytes(d);
-    let section = rng.below(6);
+    let section = rng.below(sections(d));
     let size = RECORD_SIZES[section];
     let count = counts(d)[section];
     let start = section_starts(d)[section];
@@ -65,7 +65,7 @@ pub fn insert_or_remove(d: &Description, rng: &mut Rng) -> Vec<u8> {
 
 /// Changes a count, by little or to anything.
 pub fn change_counts(d: &Description, rng: &mut Rng) -> Vec<u8> {
-    let section = rng.below(6);
+    let section = rng.below(sections(d));
     let count = counts(d)[section] as u16;
     let other = match rng.below(4) {
         0 => count.wrapping_add(1),
@@ -79,7 +79,8 @@ pub fn change_counts(d: &Description, rng: &mut Rng) -> Vec<u8> {
 /// Right counts and records of any bytes.
 pub fn random_records(rng: &mut Rng) -> Vec<u8> {
     let mut made = Vec::new();
-    for (section, size) in RECORD_SIZES.into_iter().enumerate() {
+    let sections = rng.within(SECTIONS - 1..=SECTIONS);
+    for (section, size) in RECORD_SIZES.into_iter().take(sections).enumerate() {
         // Without fields the later sections are reached more often.
         let least = usize::from(section == 2);
         let most = if section == 0 && rng.once_in(2) { 0 } else { 3 };

@@ -37,7 +37,7 @@ pub fn planted_stream(rng: &mut Rng, d: &Description, length: usize) -> (Vec<u8>
     let (mut stream, context) = (Vec::new(), planted(rng, d, 0).1);
     while stream.len() < length {
         let (code, _) = planted(rng, d, INSTRUCTION);
-        let end = match reference::decode(d, context, &code) {
+        let end = match reference::decode(d, context, 0, &code) {
             Ok(rows) if !rng.once_in(8) => rows[0][3] as usize,
             _ => rng.within(1..=INSTRUCTION),
         };
@@ -76,8 +76,10 @@ impl Planting<'_> {
     }
 
     fn operand(&mut self, operand: &Operand, start: usize) -> usize {
-        if operand.kind == Operand::TABLE {
-            return self.table(operand.index.into(), start);
+        match operand.kind {
+            Operand::TABLE => return self.table(operand.index.into(), start),
+            Operand::COMPUTED => return start,
+            _ => {}
         }
         let field = &self.description.fields[usize::from(operand.index)];
         match field.is_context() {

@@ -3,6 +3,7 @@
 use reference::{Constructor, Description, Field, Name, Operand, Pattern, Piece};
 
 use crate::example::{literal, operand, shown};
+use crate::expressions::compute_some;
 use crate::patterns;
 use crate::write::{bytes, LIMITS};
 use crate::Rng;
@@ -65,6 +66,9 @@ pub fn well_formed(rng: &mut Rng, size: Size) -> Description {
         }
     }
     place_empty_ranges(rng, &mut d);
+    if rng.once_in(2) {
+        compute_some(rng, &mut d);
+    }
     assert!(
         reference::check(&bytes(&d)).is_ok(),
         "not well formed: {d:?}"

@@ -1,15 +1,18 @@
 //! Writing a description, well formed or not, to bytes.
 
-use reference::Description;
+use reference::{Description, Expression};
+
+/// The most sections; the last may be absent.
+pub const SECTIONS: usize = 7;
 
 /// Bytes of one record of each section.
-pub const RECORD_SIZES: [usize; 6] = [8, 3, 32, 4, 4, 1];
+pub const RECORD_SIZES: [usize; SECTIONS] = [8, 3, 32, 4, 4, 1, 145];
 
 /// The most records of each section.
-pub const LIMITS: [usize; 6] = [256, 1024, 512, 2048, 4096, 8192];
+pub const LIMITS: [usize; SECTIONS] = [256, 1024, 512, 2048, 4096, 8192, 256];
 
 /// Number of records of each section.
-pub fn counts(d: &Description) -> [usize; 6] {
+pub fn counts(d: &Description) -> [usize; SECTIONS] {
     [
         d.fields.len(),
         d.names.len(),
@@ -17,20 +20,30 @@ pub fn counts(d: &Description) -> [usize; 6] {
         d.operands.len(),
         d.pieces.len(),
         d.text.len(),
+        d.expressions.len(),
     ]
 }
 
-/// Where each section's count stands, and the end.
-pub fn section_starts(d: &Description) -> [usize; 7] {
-    let mut starts = [0; 7];
-    for (i, (count, size)) in counts(d).into_iter().zip(RECORD_SIZES).enumerate() {
-        starts[i + 1] = starts[i] + 2 + count * size;
+/// How many sections are written: the last only if it has records.
+pub fn sections(d: &Description) -> usize {
+    match d.expressions.is_empty() {
+        true => SECTIONS - 1,
+        false => SECTIONS,
+    }
+}
+
+/// Where each written section's count stands, and the end.
+pub fn section_starts(d: &Description) -> Vec<usize> {
+    let sizes = counts(d).into_iter().zip(RECORD_SIZES).take(sections(d));
+    let mut starts = vec![0];
+    for (i, (count, size)) in sizes.enumerate() {
+        starts.push(starts[i] + 2 + count * size);
     }
     starts
 }
 
 pub fn bytes(d: &Description) -> Vec<u8> {
-    let mut out = Vec::with_capacity(section_starts(d)[6]);
+    let mut out = Vec::new();
     count(&mut out, d.fields.len());
     for f in &d.fields {
         out.extend([f.source, f.width, f.order, f.low, f.high, f.look]);
@@ -53,7 +66,19 @@ pub fn bytes(d: &Description) -> Vec<u8> {
     }
     count(&mut out, d.text.len());
     out.extend(&d.text);
+    if sections(d) == SECTIONS {
+        count(&mut out, d.expressions.len());
+        d.expressions.iter().for_each(|e| expression(&mut out, e));
+    }
     out
+}
+
+fn expression(out: &mut Vec<u8>, expression: &Expression) {
+    out.push(expression.step_count);
+    for step in &expression.steps {
+        out.push(step.kind);
+        out.extend(step.value.to_le_bytes());
+    }
 }
 
 fn constructors(out: &mut Vec<u8>, d: &Description) {

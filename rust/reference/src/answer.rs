@@ -22,6 +22,8 @@ pub enum Refusal {
     TextTooLong,
     BadTree { node: u16 },
     NoTable { table: u32 },
+    /// A computed value, or one on the way to it, does not fit 64 bits.
+    Outside { place: usize },
 }
 
 impl From<Fault> for Refusal {
@@ -46,6 +48,7 @@ impl Refusal {
             Refusal::TextTooLong => (10, values([])),
             Refusal::BadTree { node } => (11, values([node.into()])),
             Refusal::NoTable { table } => (12, values([table.into()])),
+            Refusal::Outside { place } => (13, values([place as u64])),
         }
     }
 }

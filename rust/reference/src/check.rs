@@ -24,6 +24,7 @@ fn first_faulty_record(d: &Description) -> Option<Fault> {
         .or_else(|| first_faulty(4, &d.operands, |_, operand| operand_is_sound(d, operand)))
         .or_else(|| first_faulty(5, &d.pieces, |_, piece| piece_is_sound(d, piece)))
         .or_else(|| first_faulty(6, &d.text, |_, byte| (32..=126).contains(byte)))
+        .or_else(|| first_faulty(7, &d.expressions, |_, expression| expression.is_sound()))
 }
 
 fn first_faulty<T>(
@@ -108,15 +109,24 @@ fn pattern_is_sound(constructor: &Constructor) -> bool {
         && pattern.context_value & !pattern.context_mask == 0
 }
 
-/// What depends on the user: the range, each anchor and each table number.
+/// What depends on the user: the range, each anchor, each table number and the
+/// operands that expressions name.
 fn used_operands_are_sound(d: &Description, tables: &Tables, user: &Constructor) -> bool {
     let Some(operands) = d.operands.get(user.operand_range()) else {
         return false;
     };
     operands.iter().enumerate().all(|(earlier, operand)| {
-        let table_is_sound = operand.kind != Operand::TABLE
-            || operand.index < user.table && tables.has(operand.index);
-        usize::from(operand.anchor) <= earlier && table_is_sound
+        let index = usize::from(operand.index);
+        let index_is_sound = match operand.kind {
+            Operand::TABLE => operand.index < user.table && tables.has(operand.index),
+            // An index past the section is the operand's own fault.
+            Operand::COMPUTED => match d.expressions.get(index) {
+                Some(expression) => expression.names_fields_of(operands),
+                None => true,
+            },
+            _ => true,
+        };
+        usize::from(operand.anchor) <= earlier && index_is_sound
     })
 }
 
@@ -136,13 +146,15 @@ fn used_pieces_are_sound(d: &Description, user: &Constructor) -> bool {
 }
 
 fn operand_is_sound(d: &Description, operand: &Operand) -> bool {
+    let index = usize::from(operand.index);
+    let at_start = operand.anchor == 0 && operand.offset == 0;
     let index_is_sound = match operand.kind {
-        Operand::FIELD => match d.fields.get(usize::from(operand.index)) {
-            Some(field) if field.is_context() => operand.anchor == 0 && operand.offset == 0,
-            Some(_) => true,
+        Operand::FIELD => match d.fields.get(index) {
+            Some(field) => at_start || !field.is_context(),
             None => false,
         },
         Operand::TABLE => true,
+        Operand::COMPUTED => at_start && index < d.expressions.len(),
         _ => false,
     };
     index_is_sound && operand.offset <= 15

@@ -3,13 +3,15 @@
 use crate::answer::Refusal;
 use crate::choose::{choose, Choice};
 use crate::description::{Constructor, Description, Field, Operand};
+use crate::expression::Addresses;
 
-/// Kind, constructor or field, start, and length or value.
+/// Kind, constructor, field or expression, start, and length or value.
 pub type Row = [i64; 4];
 
 const CONSTRUCTOR_ROW: i64 = 0;
 const VALUE_ROW: i64 = 1;
 const NAME_ROW: i64 = 2;
+const COMPUTED_ROW: i64 = 3;
 
 const ROW_LIMIT: usize = 32;
 const POSITION_LIMIT: usize = 16;
@@ -32,11 +34,22 @@ pub enum Part {
         value: i64,
     },
     Constructor(Decoded),
+    /// By an expression.
+    Computed {
+        expression: usize,
+        start: usize,
+        value: i64,
+    },
 }
 
-/// Decodes the instruction at the code's start to rows.
-pub fn decode(description: &Description, context: u32, code: &[u8]) -> Result<Vec<Row>, Refusal> {
-    let decoded = decode_instruction(description, context, code)?;
+/// Decodes the instruction at the code's start, which has this address, to rows.
+pub fn decode(
+    description: &Description,
+    context: u32,
+    address: u32,
+    code: &[u8],
+) -> Result<Vec<Row>, Refusal> {
+    let decoded = decode_instruction(description, context, address.into(), code)?;
     let mut rows = Vec::new();
     add_rows(description, &decoded, &mut rows);
     Ok(rows)
@@ -63,14 +76,20 @@ fn add_rows(description: &Description, decoded: &Decoded, rows: &mut Vec<Row>) {
                 };
                 rows.push([kind, field as i64, start as i64, value]);
             }
+            &Part::Computed {
+                expression,
+                start,
+                value,
+            } => rows.push([COMPUTED_ROW, expression as i64, start as i64, value]),
         }
     }
 }
 
-/// Walks the instruction at the code's start.
+/// Walks the instruction at the code's start, which has this address.
 pub fn decode_instruction(
     description: &Description,
     context: u32,
+    address: u64,
     code: &[u8],
 ) -> Result<Decoded, Refusal> {
     let mut walk = Walk {
@@ -79,10 +98,52 @@ pub fn decode_instruction(
         code,
         rows_left: ROW_LIMIT,
     };
-    let root = walk.table(description.root(), 0)?;
-    match root.length {
-        0 => Err(Refusal::RootLengthZero),
-        _ => Ok(root),
+    let mut root = walk.table(description.root(), 0)?;
+    if root.length == 0 {
+        return Err(Refusal::RootLengthZero);
+    }
+    let addresses = Addresses {
+        of: address,
+        after: address + root.length as u64,
+    };
+    compute(description, addresses, &mut root)?;
+    Ok(root)
+}
+
+/// Computes what the walk left open, in the order of the rows.
+fn compute(
+    description: &Description,
+    addresses: Addresses,
+    decoded: &mut Decoded,
+) -> Result<(), Refusal> {
+    for i in 0..decoded.operands.len() {
+        match decoded.operands[i] {
+            Part::Constructor(ref mut inner) => compute(description, addresses, inner)?,
+            Part::Computed {
+                expression, start, ..
+            } => {
+                let field = |number| counted(description, &decoded.operands, number);
+                let computed = description.expressions[expression].value(addresses, field);
+                let value = computed.ok_or(Refusal::Outside { place: start })?;
+                decoded.operands[i] = Part::Computed {
+                    expression,
+                    start,
+                    value,
+                };
+            }
+            Part::Field { .. } => {}
+        }
+    }
+    Ok(())
+}
+
+/// What a field operand counts as: its row's value, or its bits if it is shown
+/// by names.
+fn counted(description: &Description, operands: &[Part], number: u8) -> i64 {
+    match operands[usize::from(number) - 1] {
+        Part::Field { field, value, .. } => value - i64::from(description.fields[field].first_name),
+        // A well-formed description's expressions name no other operands.
+        _ => 0,
     }
 }
 
@@ -153,12 +214,28 @@ impl Walk<'_> {
 
     /// An operand and its end.
     fn operand(&mut self, operand: &Operand, start: usize) -> Result<(Part, usize), Refusal> {
-        if operand.kind == Operand::TABLE {
-            let inner = self.table(u32::from(operand.index), start)?;
-            let end = start + inner.length;
-            return Ok((Part::Constructor(inner), end));
+        match operand.kind {
+            Operand::TABLE => {
+                let inner = self.table(u32::from(operand.index), start)?;
+                let end = start + inner.length;
+                Ok((Part::Constructor(inner), end))
+            }
+            Operand::COMPUTED => self.computed(usize::from(operand.index), start),
+            _ => self.field(usize::from(operand.index), start),
         }
-        self.field(usize::from(operand.index), start)
+    }
+
+    /// Takes no bytes. Its value needs the root's length.
+    fn computed(&mut self, expression: usize, start: usize) -> Result<(Part, usize), Refusal> {
+        self.take_row()?;
+        stays_near(start, start)?;
+        self.ends_in_code(start, start)?;
+        let part = Part::Computed {
+            expression,
+            start,
+            value: 0,
+        };
+        Ok((part, start))
     }
 
     fn field(&mut self, index: usize, start: usize) -> Result<(Part, usize), Refusal> {

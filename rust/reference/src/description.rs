@@ -2,6 +2,8 @@
 
 use std::ops::Range;
 
+use crate::expression::Expression;
+
 /// A run of bits of the instruction or of the context.
 #[derive(Clone, Copy, Debug, PartialEq, Eq)]
 pub struct Field {
@@ -129,6 +131,8 @@ pub struct Operand {
 impl Operand {
     pub const FIELD: u8 = 0;
     pub const TABLE: u8 = 1;
+    /// By an expression.
+    pub const COMPUTED: u8 = 2;
 }
 
 /// A part of what a constructor shows.
@@ -144,8 +148,8 @@ impl Piece {
     pub const OPERAND: u8 = 1;
 }
 
-/// The six sections. The functions that ask or decode rely on what `check`
-/// makes sure of.
+/// The seven sections; without expressions the last may be absent. The
+/// functions that ask or decode rely on what `check` makes sure of.
 #[derive(Clone, Debug, Default, PartialEq, Eq)]
 pub struct Description {
     pub fields: Vec<Field>,
@@ -154,6 +158,7 @@ pub struct Description {
     pub operands: Vec<Operand>,
     pub pieces: Vec<Piece>,
     pub text: Vec<u8>,
+    pub expressions: Vec<Expression>,
 }
 
 impl Description {

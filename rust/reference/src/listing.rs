@@ -8,12 +8,13 @@ use crate::text::text_of;
 
 const CODE_LIMIT: usize = 4096;
 const CONTEXT: u32 = 0;
+const ADDRESS: u32 = 0;
 
 /// What the program prints for its input: a length, a description, code.
 pub fn listing(input: &[u8]) -> Vec<u8> {
     let (description, code) = split(input);
     match check(description) {
-        Ok(description) => list(&description, CONTEXT, code, 0, usize::MAX).text,
+        Ok(description) => list(&description, CONTEXT, ADDRESS, code, 0, usize::MAX).text,
         Err(fault) => format!("malformed {} {}\n", fault.section, fault.record).into_bytes(),
     }
 }
@@ -38,10 +39,12 @@ pub struct Listed {
     pub full: bool,
 }
 
-/// Lists the code from a place on, as many whole lines as there is room for.
+/// Lists the code, whose byte 0 has this address, from a place on, as many whole
+/// lines as there is room for.
 pub fn list(
     description: &Description,
     context: u32,
+    address: u32,
     code: &[u8],
     from: u64,
     room: usize,
@@ -54,8 +57,9 @@ pub fn list(
     };
     // Past the code's end there is no rest.
     while let Some(rest) = rest(code, listed.next) {
-        let (shown, length) = shown_at(description, context, rest);
-        let mut line = format!("{:08x}: ", listed.next as u32).into_bytes();
+        let address = address_at(address, listed.next);
+        let (shown, length) = shown_at(description, context, address, rest);
+        let mut line = format!("{:08x}: ", line_address(address)).into_bytes();
         line.extend(shown);
         line.push(b'\n');
         if listed.text.len() + line.len() > room {
@@ -69,6 +73,16 @@ pub fn list(
     listed
 }
 
+/// No address wraps.
+fn address_at(address: u32, place: u64) -> u64 {
+    u64::from(address) + place
+}
+
+/// What a line begins with, in eight digits or as many as it needs.
+fn line_address(address: u64) -> u64 {
+    address
+}
+
 /// The code from a place on, if that is inside.
 fn rest(code: &[u8], from: u64) -> Option<&[u8]> {
     let rest = code.get(usize::try_from(from).ok()?..)?;
@@ -77,8 +91,13 @@ fn rest(code: &[u8], from: u64) -> Option<&[u8]> {
 
 /// What a line shows behind its address, and how many bytes it is about.
 /// Nothing follows a short instruction, so its line is about all that is left.
-fn shown_at(description: &Description, context: u32, rest: &[u8]) -> (Vec<u8>, usize) {
-    match decode_instruction(description, context, rest) {
+fn shown_at(
+    description: &Description,
+    context: u32,
+    address: u64,
+    rest: &[u8],
+) -> (Vec<u8>, usize) {
+    match decode_instruction(description, context, address, rest) {
         Ok(decoded) => {
             let text = text_of(description, &decoded);
             (text.unwrap_or(b".long".to_vec()), decoded.length)

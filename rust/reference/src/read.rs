@@ -1,10 +1,11 @@
-//! Reading the six sections, before any record is judged.
+//! Reading the sections, before any record is judged.
 
 use std::ops::RangeInclusive;
 
 use crate::description::{Constructor, Description, Field, Name, Operand, Pattern, Piece};
+use crate::expression::{Expression, Step};
 
-/// Where a description is not well formed: a section from 1 to 6 and a
+/// Where a description is not well formed: a section from 1 to 7 and a
 /// record from 0, or [`WHOLE_SECTION`].
 #[derive(Clone, Copy, Debug, PartialEq, Eq)]
 pub struct Fault {
@@ -57,6 +58,10 @@ pub fn read(bytes: &[u8]) -> Result<Description, Fault> {
     let operands = cursor.section(0..=2048)?;
     let pieces = cursor.section(0..=4096)?;
     let text = cursor.section::<1>(0..=8192)?;
+    let expressions = match cursor.rest {
+        [] => &[],
+        _ => cursor.section(0..=256)?,
+    };
     if !cursor.rest.is_empty() {
         return Err(cursor.fault());
     }
@@ -67,6 +72,7 @@ pub fn read(bytes: &[u8]) -> Result<Description, Fault> {
         operands: operands.iter().map(operand).collect(),
         pieces: pieces.iter().map(piece).collect(),
         text: text.as_flattened().to_vec(),
+        expressions: expressions.iter().map(expression).collect(),
     })
 }
 
@@ -108,7 +114,7 @@ fn constructor(record: &[u8; 32]) -> Constructor {
     }
 }
 
-fn part<const N: usize>(record: &[u8; 32], at: usize) -> [u8; N] {
+fn part<const N: usize>(record: &[u8], at: usize) -> [u8; N] {
     std::array::from_fn(|i| record[at + i])
 }
 
@@ -128,5 +134,16 @@ fn piece(record: &[u8; 4]) -> Piece {
         kind,
         n,
         text_offset: u16::from_le_bytes([offset_0, offset_1]),
+    }
+}
+
+fn expression(record: &[u8; 145]) -> Expression {
+    let step = |i: usize| Step {
+        kind: record[1 + 9 * i],
+        value: i64::from_le_bytes(part(record, 2 + 9 * i)),
+    };
+    Expression {
+        step_count: record[0],
+        steps: std::array::from_fn(step),
     }
 }

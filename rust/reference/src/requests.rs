@@ -31,9 +31,15 @@ pub fn tree(description: &[u8], table: u32, tree: &[u8]) -> Answer {
 }
 
 /// Decodes one instruction to rows, four numbers each.
-pub fn rows(description: &[u8], context: u32, code: &[u8], lent: &mut [i64]) -> Answer {
+pub fn rows(
+    description: &[u8],
+    context: u32,
+    address: u32,
+    code: &[u8],
+    lent: &mut [i64],
+) -> Answer {
     let mut decoded = || {
-        let rows = crate::decode(&crate::check(description)?, context, code)?;
+        let rows = crate::decode(&crate::check(description)?, context, address, code)?;
         write(rows.as_flattened(), lent)?;
         Ok(rows.len())
     };
@@ -41,9 +47,15 @@ pub fn rows(description: &[u8], context: u32, code: &[u8], lent: &mut [i64]) -> 
 }
 
 /// Decodes one instruction to text.
-pub fn text(description: &[u8], context: u32, code: &[u8], lent: &mut [u8]) -> Answer {
+pub fn text(
+    description: &[u8],
+    context: u32,
+    address: u32,
+    code: &[u8],
+    lent: &mut [u8],
+) -> Answer {
     let mut decoded = || {
-        let text = crate::decode_text(&crate::check(description)?, context, code)?;
+        let text = crate::decode_text(&crate::check(description)?, context, address, code)?;
         write(&text, lent)?;
         Ok(text.len())
     };
@@ -51,10 +63,16 @@ pub fn text(description: &[u8], context: u32, code: &[u8], lent: &mut [u8]) -> A
 }
 
 /// Sweeps a code buffer; a row is four numbers.
-pub fn sweep(description: &[u8], context: u32, code: &[u8], lent: &mut [i64]) -> Answer {
+pub fn sweep(
+    description: &[u8],
+    context: u32,
+    address: u32,
+    code: &[u8],
+    lent: &mut [i64],
+) -> Answer {
     let room = lent.len() / ROW_NUMBERS;
     let mut swept = || {
-        let sweep = crate::sweep(&crate::check(description)?, context, code, room);
+        let sweep = crate::sweep(&crate::check(description)?, context, address, code, room);
         write(sweep.rows.as_flattened(), lent)?;
         Ok(sweep)
     };
@@ -62,9 +80,17 @@ pub fn sweep(description: &[u8], context: u32, code: &[u8], lent: &mut [i64]) ->
 }
 
 /// Lists code from a place on as lines of text.
-pub fn list(description: &[u8], context: u32, code: &[u8], from: u64, lent: &mut [u8]) -> Answer {
+pub fn list(
+    description: &[u8],
+    context: u32,
+    address: u32,
+    code: &[u8],
+    from: u64,
+    lent: &mut [u8],
+) -> Answer {
     let mut listed = || {
-        let listed = crate::list(&crate::check(description)?, context, code, from, lent.len());
+        let description = crate::check(description)?;
+        let listed = crate::list(&description, context, address, code, from, lent.len());
         write(&listed.text, lent)?;
         Ok(listed)
     };

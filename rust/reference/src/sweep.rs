@@ -23,9 +23,15 @@ pub struct Sweep {
 
 const NO_CONSTRUCTOR: i64 = 65_535;
 
-/// Decodes the code from byte 0 on, one row for each instruction or gap,
-/// with room for so many rows.
-pub fn sweep(description: &Description, context: u32, code: &[u8], room: usize) -> Sweep {
+/// Decodes the code from byte 0 on, which has this address, one row for each
+/// instruction or gap, with room for so many rows.
+pub fn sweep(
+    description: &Description,
+    context: u32,
+    address: u32,
+    code: &[u8],
+    room: usize,
+) -> Sweep {
     let mut rows = Vec::new();
     let mut next = 0;
     let end = loop {
@@ -36,7 +42,8 @@ pub fn sweep(description: &Description, context: u32, code: &[u8], room: usize) 
             break End::Full;
         }
         let start = next as i64;
-        match decode_instruction(description, context, &code[next..]) {
+        let address = u64::from(address) + next as u64;
+        match decode_instruction(description, context, address, &code[next..]) {
             Err(Refusal::Short { .. }) => break End::Short,
             Ok(root) => {
                 rows.push([start, root.length as i64, 0, root.constructor as i64]);

@@ -10,9 +10,10 @@ const TEXT_LIMIT: usize = 256;
 pub fn decode_text(
     description: &Description,
     context: u32,
+    address: u32,
     code: &[u8],
 ) -> Result<Vec<u8>, Refusal> {
-    let decoded = decode_instruction(description, context, code)?;
+    let decoded = decode_instruction(description, context, address.into(), code)?;
     text_of(description, &decoded)
 }
 
@@ -38,6 +39,7 @@ fn show(description: &Description, decoded: &Decoded, text: &mut Vec<u8>) {
             &Part::Field { field, value, .. } => {
                 show_value(description, &description.fields[field], value, text)
             }
+            &Part::Computed { value, .. } => show_hex(value, text),
         }
     }
 }
@@ -47,14 +49,16 @@ fn show_value(description: &Description, field: &Field, value: i64, text: &mut V
         Field::UNSIGNED_DECIMAL | Field::SIGNED_DECIMAL => {
             text.extend_from_slice(value.to_string().as_bytes());
         }
-        Field::UNSIGNED_HEX | Field::SIGNED_HEX => {
-            let sign = if value < 0 { "-" } else { "" };
-            let digits = format!("{sign}0x{:x}", value.unsigned_abs());
-            text.extend_from_slice(digits.as_bytes());
-        }
+        Field::UNSIGNED_HEX | Field::SIGNED_HEX => show_hex(value, text),
         _ => {
             let name = &description.names[value as usize];
             text.extend_from_slice(description.text_at(name.text_offset, name.length));
         }
     }
+}
+
+fn show_hex(value: i64, text: &mut Vec<u8>) {
+    let sign = if value < 0 { "-" } else { "" };
+    let digits = format!("{sign}0x{:x}", value.unsigned_abs());
+    text.extend_from_slice(digits.as_bytes());
 }

@@ -29,10 +29,10 @@ fn answer(request: &str, code: &[u8]) -> Answer {
         "check" => requests::check(&s),
         "ask" => requests::ask(&s, TABLE, CONTEXT, code),
         "clash" => requests::clash(&s, TABLE),
-        "decode" => requests::rows(&s, CONTEXT, code, &mut rows),
-        "text" => requests::text(&s, CONTEXT, code, &mut text),
-        "sweep" => requests::sweep(&s, CONTEXT, code, &mut rows),
-        "list" => requests::list(&s, CONTEXT, code, 0, &mut text),
+        "decode" => requests::rows(&s, CONTEXT, 0, code, &mut rows),
+        "text" => requests::text(&s, CONTEXT, 0, code, &mut text),
+        "sweep" => requests::sweep(&s, CONTEXT, 0, code, &mut rows),
+        "list" => requests::list(&s, CONTEXT, 0, code, 0, &mut text),
         _ => panic!("unknown request {request}"),
     }
 }

@@ -24,7 +24,7 @@ fn walk(operands: Vec<Operand>) -> Description {
 
 fn answers(d: &Description, code: &[u8]) -> Result<Vec<Row>, Refusal> {
     let checked = reference::check(&generate::bytes(d));
-    decode(&checked.unwrap(), 7, code)
+    decode(&checked.unwrap(), 7, 0, code)
 }
 
 #[test]
@@ -153,7 +153,7 @@ fn rows_up_to_32() {
     far.operands[9].offset = 15;
     far.fields[0].width = 4;
     assert_eq!(answers(&far, &[1]), Err(Refusal::TooManyRows));
-    let swept = sweep(&tower(2), 0, &[1], 1);
+    let swept = sweep(&tower(2), 0, 0, &[1], 1);
     assert_eq!(swept.rows, [[0, 1, 7, 65_535]]);
 }
 
@@ -161,7 +161,7 @@ fn rows_up_to_32() {
 fn no_length() {
     let d = walk(vec![]);
     assert_eq!(answers(&d, &[]), Err(Refusal::RootLengthZero));
-    let swept = sweep(&d, 0, &[1], 9);
+    let swept = sweep(&d, 0, 0, &[1], 9);
     assert_eq!(swept.rows, [[0, 1, 8, 65_535]]);
     assert_eq!(swept.end, End::Used);
 }
@@ -174,12 +174,12 @@ fn names_and_holes() {
     d.names = vec![name(0, 1), name(0, 2), name(2, 0), name(1, 1), name(0, 3)];
     d.text = b"abc".to_vec();
     assert_eq!(answers(&d, &[0x20]).unwrap(), [[0, 1, 0, 1], [2, 0, 0, 3]]);
-    assert_eq!(decode_text(&d, 0, &[0x30]).unwrap(), b"abc");
+    assert_eq!(decode_text(&d, 0, 0, &[0x30]).unwrap(), b"abc");
     assert_eq!(answers(&d, &[0x10]), Err(Refusal::Hole { place: 0 }));
     // A hole refuses where it isn't shown, too.
     d.constructors[1].piece_count = 0;
     assert_eq!(answers(&d, &[0x10]), Err(Refusal::Hole { place: 0 }));
-    assert_eq!(decode_text(&d, 0, &[0x20]).unwrap(), b"");
+    assert_eq!(decode_text(&d, 0, 0, &[0x20]).unwrap(), b"");
 }
 
 #[test]
@@ -188,7 +188,7 @@ fn looks_orders_and_signs() {
         let mut d = walk(vec![operand(0, 0, 0, 0)]);
         d.fields[0] = field;
         d.constructors[1].minimum_length = 1;
-        String::from_utf8(decode_text(&d, 0x8000_0001, code).unwrap()).unwrap()
+        String::from_utf8(decode_text(&d, 0x8000_0001, 0, code).unwrap()).unwrap()
     };
     assert_eq!(shown_as(field(0, 2, 0, 0, 15, 2), &[1, 2]), "0x201");
     assert_eq!(shown_as(field(0, 2, 1, 0, 15, 2), &[1, 2]), "0x102");
@@ -221,7 +221,7 @@ fn shown_operands() {
         d.constructors[1].piece_count = piece_count;
         assert_eq!(answers(&d, &[5, 6]).unwrap().len(), 5);
         assert_eq!(answers(&d, &[5]), Err(Refusal::Short { place: 1 }));
-        String::from_utf8(decode_text(&d, 7, &[5, 6]).unwrap()).unwrap()
+        String::from_utf8(decode_text(&d, 7, 0, &[5, 6]).unwrap()).unwrap()
     };
     assert_eq!(shows(1, 3), "567");
     assert_eq!(shows(4, 4), "7; 6;");
@@ -234,20 +234,20 @@ fn lent_buffers() {
     let s = generate::bytes(&generate::example::description_s());
     let code = [0x25, 0xfe];
     let mut rows = [77; 17];
-    let answer = requests::rows(&s, 0, &code, &mut rows[..15]);
+    let answer = requests::rows(&s, 0, 0, &code, &mut rows[..15]);
     assert_eq!(answer.number_and_values(), (9, [0; 4]));
     assert_eq!(rows, [77; 17]);
-    let answer = requests::rows(&s, 0, &code, &mut rows);
+    let answer = requests::rows(&s, 0, 0, &code, &mut rows);
     assert_eq!(answer.number_and_values(), (0, [4, 0, 0, 0]));
     assert_eq!(rows[12..], [1, 1, 1, -2, 77]);
     let mut text = [b'-'; 13];
-    let answer = requests::text(&s, 0, &code, &mut text[..11]);
+    let answer = requests::text(&s, 0, 0, &code, &mut text[..11]);
     assert_eq!(answer.number_and_values(), (9, [0; 4]));
-    let answer = requests::text(&s, 0, &code, &mut text);
+    let answer = requests::text(&s, 0, 0, &code, &mut text);
     assert_eq!(answer.number_and_values(), (0, [12, 0, 0, 0]));
     assert_eq!(&text, b"add r5, -0x2-");
     let mut rows = [77; 7];
-    let answer = requests::sweep(&s, 0, &[0x13, 0x1f], &mut rows);
+    let answer = requests::sweep(&s, 0, 0, &[0x13, 0x1f], &mut rows);
     assert_eq!(answer.number_and_values(), (0, [1, 1, 1, 0]));
     assert_eq!(rows, [0, 1, 0, 1, 77, 77, 77]);
 }
@@ -259,10 +259,10 @@ fn too_long_a_text_comes_before_too_little_room() {
     d.pieces.extend([literal(0, 255), literal(0, 2)]);
     d.constructors[1].piece_count = 2;
     d.constructors[1].first_piece = 2;
-    let answer = requests::text(&generate::bytes(&d), 0, &[1], &mut []);
+    let answer = requests::text(&generate::bytes(&d), 0, 0, &[1], &mut []);
     assert_eq!(answer.number_and_values(), (10, [0; 4]));
     d.pieces[3].n = 1;
-    let answer = requests::text(&generate::bytes(&d), 0, &[1], &mut []);
+    let answer = requests::text(&generate::bytes(&d), 0, 0, &[1], &mut []);
     assert_eq!(answer.number_and_values(), (9, [0; 4]));
 }
 
@@ -277,7 +277,7 @@ fn random_instructions() {
             false => well_formed(rng, Size::MIDDLE),
         };
         let (code, context) = (code(rng, &d, 20), context(rng, &d));
-        let decoded = decode(&d, context, &code);
+        let decoded = decode(&d, context, 0, &code);
         let number = match &decoded {
             Ok(rows) => {
                 assert!(rows.len() <= 32 && rows[0][3] as usize <= code.len().min(16));

@@ -148,14 +148,14 @@ fn an_operand_after_one_of_unknown_length() {
     };
     let d = check(&bytes(&d)).unwrap();
     let one_byte = [[0, 2, 0, 4], [0, 0, 1, 1], [1, 1, 2, 0x1234]];
-    assert_eq!(decode(&d, 0, &hex("40 05 34 12")).unwrap(), one_byte);
+    assert_eq!(decode(&d, 0, 0, &hex("40 05 34 12")).unwrap(), one_byte);
     let two_bytes = [
         [0, 2, 0, 5],
         [0, 1, 1, 2],
         [1, 0, 2, 0x7f],
         [1, 1, 3, 0x1234],
     ];
-    assert_eq!(decode(&d, 0, &hex("40 85 7F 34 12")).unwrap(), two_bytes);
+    assert_eq!(decode(&d, 0, 0, &hex("40 85 7F 34 12")).unwrap(), two_bytes);
 }
 
 #[test]
@@ -169,6 +169,6 @@ fn a_condition_with_a_hole() {
         ..Description::default()
     };
     let d = check(&bytes(&d)).unwrap();
-    assert_eq!(decode(&d, 0, &[1]).unwrap()[1], [2, 0, 0, 1]);
-    assert_eq!(decode(&d, 0, &[2]), Err(Refusal::Hole { place: 0 }));
+    assert_eq!(decode(&d, 0, 0, &[1]).unwrap()[1], [2, 0, 0, 1]);
+    assert_eq!(decode(&d, 0, 0, &[2]), Err(Refusal::Hole { place: 0 }));
 }

@@ -1,4 +1,4 @@
-use Rattle.format.proofs.Lists.{operands-length, pieces-length, text-length}
+use Rattle.format.proofs.Lists.{operands-length, pieces-length}
 use Rattle.format.specs.Check.{partFault}
 use borrow.Author.Tests.{lt-ltb, le-ltb}
 use borrow.Author.Needs.{needs}
@@ -18,14 +18,9 @@ returns-2 c =
 returns-3 : tie.Need-returns-3
 unfolding partFault
 returns-3 c =
-    let earlier = c .before .before .before .before .before in
-    rw (operands-length, ← earlier .before .before .before .bad-operand .ensures, le-ltb _ _ (earlier .before .if1 .left), pieces-length, ← earlier .bad-piece .ensures, le-ltb _ _ (c .before .before .before .if2 .left), text-length, ← c .before .before .bad-letter .ensures, lt-ltb _ _ (c .if3 .taken))
-
-returns-4 : tie.Need-returns-4
-unfolding partFault
-returns-4 c =
-    let earlier = c .before .before .before .before .before in
-    rw (operands-length, ← earlier .before .before .before .bad-operand .ensures, le-ltb _ _ (earlier .before .if1 .left), pieces-length, ← earlier .bad-piece .ensures, le-ltb _ _ (c .before .before .before .if2 .left), text-length, ← c .before .before .bad-letter .ensures, le-ltb _ _ (c .if3 .left))
+    let earlier = c .before .before .before in
+    rw (operands-length, ← earlier .before .before .before .bad-operand .ensures, le-ltb _ _ (earlier .before .if1 .left), pieces-length, ← earlier .bad-piece .ensures, le-ltb _ _ (c .before .if2 .left))
+    (c .last-fault .ensures)
 
 pub part-fault-spec : {M : Type 1} → statement M
 part-fault-spec =
@@ -36,5 +31,4 @@ part-fault-spec =
     (λ c κs. search needs)
     returns-2
     (λ c κs. search needs)
-    returns-3
-    returns-4)
+    returns-3)
