@@ -32,14 +32,16 @@ enum dookerand_answer {
     DOOKERAND_NO_ROOM = 9,           /* what is lent is too short */
     DOOKERAND_TEXT_TOO_LONG = 10,    /* the text is longer than 256 bytes */
     DOOKERAND_BAD_TREE = 11,         /* the tree is not well formed */
-    DOOKERAND_NO_TABLE = 12          /* no constructor has this table */
+    DOOKERAND_NO_TABLE = 12,         /* no constructor has this table */
+    DOOKERAND_OUTSIDE = 13           /* a computed value is outside signed 64 bits */
 };
 
 /* The first number of a row of dookerand_decode. */
 enum dookerand_row {
     DOOKERAND_ROW_CONSTRUCTOR = 0,
     DOOKERAND_ROW_FIELD = 1,
-    DOOKERAND_ROW_NAME = 2
+    DOOKERAND_ROW_NAME = 2,
+    DOOKERAND_ROW_COMPUTED = 3
 };
 
 /* How a sweep ends; a listing ends with one of the first two. */
@@ -54,10 +56,10 @@ enum dookerand_end {
 #define DOOKERAND_ROW_NUMBERS 4
 
 /* What always suffices: numbers for the rows of dookerand_decode, bytes for the text of dookerand_text and for a line of
- * dookerand_list (8 + 2 + 256 + 1). */
+ * dookerand_list (16 + 2 + 256 + 1; an address of more than eight digits is rare, but no address wraps). */
 #define DOOKERAND_DECODE_ROOM 128
 #define DOOKERAND_TEXT_ROOM 256
-#define DOOKERAND_LINE_ROOM 267
+#define DOOKERAND_LINE_ROOM 275
 
 /* Stands for no record (the whole section), no constructor (a gap of a sweep, a leaf of a tree) and no single node. */
 #define DOOKERAND_NONE 65535
@@ -80,37 +82,41 @@ uint32_t dookerand_clash(const uint8_t *description, size_t description_len, uin
 uint32_t dookerand_tree(const uint8_t *description, size_t description_len, uint32_t table, const uint8_t *tree,
                         size_t tree_len, uint64_t values[4]);
 
-/* Decodes the instruction at the code's start to rows of four numbers each, in the order of the walk: 0, constructor,
- * start, length; 1, field, start, value; 2, field, start, name number. `rows_len` counts numbers, 128 always suffice,
- * and `rows` overlaps no other slice. Only answer 0 writes there: its rows, from rows[0] on, and nothing behind them.
- * 0: the rows written. 1: section, record. 2: place. 3 and 4: place, table number. 5 and 6: place. 7, 8 and 9: 0. */
-uint32_t dookerand_decode(const uint8_t *description, size_t description_len, uint32_t context, const uint8_t *code,
-                          size_t code_len, int64_t *rows, size_t rows_len, uint64_t values[4]);
+/* Decodes the instruction at the code's start, which has this address, to rows of four numbers each, in the order of the
+ * walk: 0, constructor, start, length; 1, field, start, value; 2, field, start, name number; 3, expression, start, value.
+ * `rows_len` counts numbers, 128 always suffice, and `rows` overlaps no other slice. Only answer 0 writes there: its
+ * rows, from rows[0] on, and nothing behind them. 0: the rows written. 1: section, record. 2: place. 3 and 4: place,
+ * table number. 5, 6 and 13: place. 7, 8 and 9: 0. */
+uint32_t dookerand_decode(const uint8_t *description, size_t description_len, uint32_t context, uint32_t address,
+                          const uint8_t *code, size_t code_len, int64_t *rows, size_t rows_len, uint64_t values[4]);
 
-/* Decodes the instruction at the code's start to text. `text_len` counts bytes, 256 always suffice, and `text` overlaps
- * no other slice. Only answer 0 writes there: its bytes, from text[0] on, without a 0 at their end, and nothing behind
- * them. 0: the bytes written. 1: section, record. 2: place. 3 and 4: place, table number. 5 and 6: place. 7, 8, 9 and
- * 10: 0. */
-uint32_t dookerand_text(const uint8_t *description, size_t description_len, uint32_t context, const uint8_t *code,
-                        size_t code_len, uint8_t *text, size_t text_len, uint64_t values[4]);
+/* Decodes the instruction at the code's start, which has this address, to text. `text_len` counts bytes, 256 always
+ * suffice, and `text` overlaps no other slice. Only answer 0 writes there: its bytes, from text[0] on, without a 0 at
+ * their end, and nothing behind them. 0: the bytes written. 1: section, record. 2: place. 3 and 4: place, table number.
+ * 5, 6 and 13: place. 7, 8, 9 and 10: 0. */
+uint32_t dookerand_text(const uint8_t *description, size_t description_len, uint32_t context, uint32_t address,
+                        const uint8_t *code, size_t code_len, uint8_t *text, size_t text_len, uint64_t values[4]);
 
-/* Sweeps the code from byte 0 on to rows of four numbers each: start, length, answer, root constructor. An instruction
- * that is refused by answers 3 to 8 is a gap: length 1, that answer, constructor 65,535. `rows_len` counts numbers; a
- * rest below four is no row. `rows` overlaps no other slice. The rows stand from rows[0] on, and nothing is written
- * behind them. 0: the end, rows written, next byte; the end is 0 where the code is used up, 1 where the rows are full,
- * 2 where the next instruction is short, tested in this order. 1: section, record, and nothing is written. */
-uint32_t dookerand_sweep(const uint8_t *description, size_t description_len, uint32_t context, const uint8_t *code,
-                         size_t code_len, int64_t *rows, size_t rows_len, uint64_t values[4]);
+/* Sweeps the code from byte 0 on, which has this address, to rows of four numbers each: start, length, answer, root
+ * constructor. An instruction's address is that of byte 0 plus its start, above 2^32 too. One that is refused by answers
+ * 3 to 8 or 13 is a gap: length 1, that answer, constructor 65,535. `rows_len` counts numbers; a rest below four is no
+ * row. `rows` overlaps no other slice. The rows stand from rows[0] on, and nothing is written behind them. 0: the end,
+ * rows written, next byte; the end is 0 where the code is used up, 1 where the rows are full, 2 where the next
+ * instruction is short, tested in this order. 1: section, record, and nothing is written. */
+uint32_t dookerand_sweep(const uint8_t *description, size_t description_len, uint32_t context, uint32_t address,
+                         const uint8_t *code, size_t code_len, int64_t *rows, size_t rows_len, uint64_t values[4]);
 
-/* Lists the code from byte `from` on as lines: the place as eight lower-case hex digits, ": ", then the instruction's
- * text, ".long" for a text of more than 256 bytes, ".short" for an instruction that is cut off by the code's end, after
- * which nothing follows, or ".byte 0x" and two digits for a byte that answers 3 to 8 are given for; and a line feed.
- * `text_len` counts bytes, 267 always suffice for a line, and `text` overlaps no other slice. As many whole lines are
- * written as fit, from text[0] on, and nothing behind them. 0: bytes written, lines written, next place, end; the end
- * is 1 where the line at the next place does not fit, and 0 where no line is left: then the next place is the code's
- * length, or `from` where that is not below it. 1: section, record, and nothing is written. */
-uint32_t dookerand_list(const uint8_t *description, size_t description_len, uint32_t context, const uint8_t *code,
-                        size_t code_len, uint64_t from, uint8_t *text, size_t text_len, uint64_t values[4]);
+/* Lists the code, whose byte 0 has this address, from byte `from` on as lines: the byte's address in lower-case hex,
+ * eight digits or as many as it needs, ": ", then the instruction's text, ".long" for a text of more than 256 bytes,
+ * ".short" for an instruction that is cut off by the code's end, after which nothing follows, or ".byte 0x" and two
+ * digits for a byte that answers 3 to 8 or 13 are given for; and a line feed. `text_len` counts bytes, 275 always
+ * suffice for a line, and `text` overlaps no other slice. As many whole lines are written as fit, from text[0] on, and
+ * nothing behind them. 0: bytes written, lines written, next place, end; the end is 1 where the line at the next place
+ * does not fit, and 0 where no line is left: then the next place is the code's length, or `from` where that is not below
+ * it. 1: section, record, and nothing is written. */
+uint32_t dookerand_list(const uint8_t *description, size_t description_len, uint32_t context, uint32_t address,
+                        const uint8_t *code, size_t code_len, uint64_t from, uint8_t *text, size_t text_len,
+                        uint64_t values[4]);
 
 #ifdef __cplusplus
 }

@@ -1,4 +1,4 @@
--- Demand 2: "An answer, unless "short", stays the same whatever bytes follow", for the rows.
+-- Demand 2: "An answer, unless "short", stays the same whatever bytes follow", for the rows; ""Stays the same" is read for one address."
 use Prim.Native.Nat.{ℕ}
 use mathlib.Core.List.{List, _++_}
 use mathlib.Core.Path.{_≡_}
@@ -8,12 +8,12 @@ use Rattle.decoding_theorems.proofs.Entries.{answers-stay}
 use Rattle.decoding.specs.Decoding.{answerOf, bufferAfter, decodeOf, rowsAfter}
 use Rattle.decoding.specs.declared.Decoded.the-variants.{Rejected, Refused}
 
-module _ (b : List ℕ) (c : ℕ) (s m : List ℕ) (old : List ℤ) (room : ℕ)
-    (whole : (p : ℕ) → decodeOf b c s room ≡ Refused (Short p) → ⊥) where
-  pub decode-stays : decodeOf b c (s ++ m) room ≡ decodeOf b c s room
+module _ (b : List ℕ) (c a : ℕ) (s m : List ℕ) (old : List ℤ) (room : ℕ)
+    (whole : (p : ℕ) → decodeOf b c a s room ≡ Refused (Short p) → ⊥) where
+  pub decode-stays : decodeOf b c a (s ++ m) room ≡ decodeOf b c a s room
   unfolding decodeOf
-  decode-stays = answers-stay Rejected (λ d. answerOf room) b c s m (λ l e p q. whole p (rw (e, q)))
+  decode-stays = answers-stay Rejected (λ d. answerOf room) b c a s m (λ l e p q. whole p (rw (e, q)))
 
-  pub rows-stay : rowsAfter b c (s ++ m) old ≡ rowsAfter b c s old
+  pub rows-stay : rowsAfter b c a (s ++ m) old ≡ rowsAfter b c a s old
   unfolding decodeOf rowsAfter
-  rows-stay = answers-stay (λ x. old) (λ d. bufferAfter old) b c s m (λ l e p q. whole p (rw (e, q)))
+  rows-stay = answers-stay (λ x. old) (λ d. bufferAfter old) b c a s m (λ l e p q. whole p (rw (e, q)))

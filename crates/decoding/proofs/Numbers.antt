@@ -10,7 +10,7 @@ use lib.Seq.{ext-getD, getD-take, getD-drop, getD-set-same, getD-set-other, drop
 use Rattle.format.specs.Numbers.{rowNumbers}
 use Rattle.decoding_spec.specs.Tree.{Row, numbersOf}
 use Rattle.walking.specs.Scratch.{scratchNumbers, SizedRow, scratchRow, scratchOf}
-use Rattle.walking.proofs.Instructions.{plain, plain-length}
+use Rattle.instructions.proofs.InstructionRows.{plain, plain-length}
 use Rattle.decoding.specs.Copying.{Copied}
 
 pub numbers-length : (rs : List Row) → length (numbersOf rs) ≡ rowNumbers * length rs

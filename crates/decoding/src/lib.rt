@@ -33,12 +33,19 @@ fn copy_rows(scratch: &[i64; walking::SCRATCH], used: usize, rows: &mut [i64])
     }
 }
 
-fn decode_in(desc: &[u8], layout: Layout, context: u32, code: &[u8], rows: &mut [i64]) -> Decoded
+fn decode_in(
+    desc: &[u8],
+    layout: Layout,
+    context: u32,
+    address: u32,
+    code: &[u8],
+    rows: &mut [i64],
+) -> Decoded
     requires { ⌜ WellFormed (now desc) layout ⌝ }
-    ensures { λ r. ⌜ Decodes (description (now (desc .entry)) layout) context (now (code .entry)) (now (rows .entry)) r (now (rows .exit)) ⌝ }
+    ensures { λ r. ⌜ Decodes (description (now (desc .entry)) layout) context address (now (code .entry)) (now (rows .entry)) r (now (rows .exit)) ⌝ }
 {
     let mut fixed = setting::fill(desc, layout, false);
-    let found = walking::decode_at(desc, &mut fixed, context, code, 0);
+    let found = instructions::decode_at(desc, &mut fixed, context, address, code, 0);
     let walked = found.walked;
     match walked {
         Walked::Refused(refusal) => Decoded::Refused(refusal),
@@ -54,14 +61,14 @@ fn decode_in(desc: &[u8], layout: Layout, context: u32, code: &[u8], rows: &mut 
     }
 }
 
-// Any bytes as the description and as the code, any context, any room for rows.
-pub fn decode(desc: &[u8], context: u32, code: &[u8], rows: &mut [i64]) -> Decoded
-    ensures { λ r. ⌜ r ≡ decodeOf (now (desc .entry)) context (now (code .entry)) (length (now (rows .entry))) ⌝ }
-    ensures { λ _. ⌜ now (rows .exit) ≡ rowsAfter (now (desc .entry)) context (now (code .entry)) (now (rows .entry)) ⌝ }
+// Any bytes as the description and as the code, any context, any address of the code's first byte, any room for rows.
+pub fn decode(desc: &[u8], context: u32, address: u32, code: &[u8], rows: &mut [i64]) -> Decoded
+    ensures { λ r. ⌜ r ≡ decodeOf (now (desc .entry)) context address (now (code .entry)) (length (now (rows .entry))) ⌝ }
+    ensures { λ _. ⌜ now (rows .exit) ≡ rowsAfter (now (desc .entry)) context address (now (code .entry)) (now (rows .entry)) ⌝ }
 {
     let acceptance = acceptance::accept(desc);
     match acceptance {
-        Acceptance::Accepted(layout) => decode_in(desc, layout, context, code, rows),
+        Acceptance::Accepted(layout) => decode_in(desc, layout, context, address, code, rows),
         Acceptance::Rejected(rejection) => Decoded::Rejected(rejection),
     }
 }

@@ -11,21 +11,22 @@ use Rattle.format.specs.Description.{Description, description}
 use Rattle.format.specs.declared.Layout.{Layout}
 use Rattle.format.proofs.Formation.{RulesHold}
 use Rattle.format.proofs.Lists.{constructors-length}
-use Rattle.decoding_spec.specs.Tree.{Node, built, numbered, named}
-use Rattle.decoding_spec.specs.Walk.{Result, done, refused, instructionOf}
+use Rattle.decoding_spec.specs.Tree.{Node, built, numbered, named, computed}
+use Rattle.decoding_spec.specs.Walk.{Result, done, refused}
+use Rattle.decoding_spec.specs.Instruction.{instructionOf}
 use Rattle.decoding_spec.specs.Refusals.{refusalNumber, isShort}
 use Rattle.decoding_spec.specs.declared.State.{State}
 use Rattle.decoding_spec.specs.declared.Refusal.{Refusal}
 use Rattle.decoding_theorems.specs.Facts.{Shaped}
 use Rattle.decoding_theorems.specs.Relation.{TableWalk, taken}
 use Rattle.decoding_theorems.proofs.InBounds.{in-bounds}
-use Rattle.decoding_theorems.proofs.Relation.{relation}
+use Rattle.decoding_theorems.proofs.Instructions.{relation, stays}
 use Rattle.decoding_theorems.proofs.Shapes.{shaped}
-use Rattle.decoding_theorems.proofs.Stays.{stays}
 use Rattle.setting.specs.Fixed.{settingIn}
-use Rattle.walking.specs.Walks.{answerOf, resultAt}
+use Rattle.walking.specs.Walks.{answerOf}
 use Rattle.walking.specs.declared.Walked.{Walked}
 use Rattle.walking.specs.declared.Walked.the-variants as walked
+use Rattle.instructions.specs.Instructions.{resultAt}
 use Rattle.sweep.specs.Sweep.{rootNumber, noRoot, gapLength, gap, stepBy, stepAt}
 use Rattle.sweep.specs.declared.Step.the-variants.{Row, Stop}
 
@@ -34,29 +35,29 @@ walk-taken : {d : Description} {s : List ℕ} {t at : ℕ} {st : State} {n : Nod
     → st′ .taken ≡ rootNumber n
 walk-taken (taken c f) = ap (λ (st : State). st .taken) (c .state)
 
-pub root-taken : (d : Description) (c : ℕ) (s : List ℕ) (n : Node) (l : ℕ) (st : State) → instructionOf d c s ≡ done n l st
+pub root-taken : (d : Description) (c a : ℕ) (s : List ℕ) (n : Node) (l : ℕ) (st : State) → instructionOf d c a s ≡ done n l st
     → st .taken ≡ rootNumber n
-root-taken d c s n l st e = walk-taken (relation d c s n l st e .root)
+root-taken d c a s n l st e = walk-taken (relation d c a s n l st e .root)
 
 -- a place's step, from the walk's answer there
-module _ (b a s : List ℕ) (at c : ℕ) (w : Walked) (is : w ≡ answerOf (resultAt b a s at c)) where
-  pub gap-step : (r : Refusal) → w ≡ walked.Refused r → gap r ≡ stepBy (resultAt b a s at c)
-  gap-step r e = go (resultAt b a s at c) (sym is ∙ e)
+module _ (b a s : List ℕ) (at c address : ℕ) (w : Walked) (is : w ≡ answerOf (resultAt b a s at c address)) where
+  pub gap-step : (r : Refusal) → w ≡ walked.Refused r → gap r ≡ stepBy (resultAt b a s at c address)
+  gap-step r e = go (resultAt b a s at c address) (sym is ∙ e)
     where
       go : (x : Result Node) → answerOf x ≡ walked.Refused r → gap r ≡ stepBy x
       go (done n l st) q = let z : _≡_ {A = ℕ} 0 1 = cc in absurd (omega arith)
       go (refused r′) q = let z : r ≡ r′ = cc in ap gap z
 
-  pub row-step : (st : State) (l : ℕ) → w ≡ walked.Done st l → Row l 0 (st .taken) ≡ stepBy (resultAt b a s at c)
+  pub row-step : (st : State) (l : ℕ) → w ≡ walked.Done st l → Row l 0 (st .taken) ≡ stepBy (resultAt b a s at c address)
   unfolding resultAt
-  row-step st l e = go (resultAt b a s at c) refl (sym is ∙ e)
+  row-step st l e = go (resultAt b a s at c address) refl (sym is ∙ e)
     where
-      go : (x : Result Node) → instructionOf (settingIn b a .description) c (drop at s) ≡ x → answerOf x ≡ walked.Done st l
+      go : (x : Result Node) → instructionOf (settingIn b a .description) c (address + at) (drop at s) ≡ x → answerOf x ≡ walked.Done st l
           → Row l 0 (st .taken) ≡ stepBy x
       go (done n m st′) p q =
           let x : l ≡ m = cc in
           let y : st ≡ st′ = cc in
-          let z : st .taken ≡ rootNumber n = ap (λ (u : State). u .taken) y ∙ root-taken _ c (drop at s) n m st′ p in
+          let z : st .taken ≡ rootNumber n = ap (λ (u : State). u .taken) y ∙ root-taken _ c (address + at) (drop at s) n m st′ p in
           cc
       go (refused r) p q = let z : _≡_ {A = ℕ} 0 1 = cc in absurd (omega arith)
 
@@ -73,35 +74,36 @@ root-small : (d : Description) (n : Node) → length (d .constructors) ≤ noRoo
 root-small d (built k s l f) h g = omega (arith, g .0)
 root-small d (numbered i s v) h g = omega arith
 root-small d (named i s n) h g = omega arith
+root-small d (computed i s v) h g = omega arith
 
-module _ (d : Description) (o : RulesHold d) (c : ℕ) (s : List ℕ) (at : ℕ) where
-  pub step-fits : length (d .constructors) ≤ noRoot → at < length s → (l a k : ℕ) → stepAt d c s at ≡ Row l a k → Fits s at l k
+module _ (d : Description) (o : RulesHold d) (c a : ℕ) (s : List ℕ) (at : ℕ) where
+  pub step-fits : length (d .constructors) ≤ noRoot → at < length s → (l x k : ℕ) → stepAt d c a s at ≡ Row l x k → Fits s at l k
   unfolding stepAt
-  step-fits few h l a k e = go (instructionOf d c (drop at s)) refl e
+  step-fits few h l x k e = go (instructionOf d c (a + at) (drop at s)) refl e
     where
-      refusal : (short : Bool) (n : ℕ) → cond short Stop (Row gapLength n noRoot) ≡ Row l a k → Fits s at l k
+      refusal : (short : Bool) (n : ℕ) → cond short Stop (Row gapLength n noRoot) ≡ Row l x k → Fits s at l k
       refusal true n q = let z : _≡_ {A = ℕ} 0 1 = cc in absurd (omega arith)
       refusal false n q =
-          let x : gapLength ≡ l = cc in
-          let y : noRoot ≡ k = cc in
+          let size : gapLength ≡ l = cc in
+          let root : noRoot ≡ k = cc in
           record { some = omega arith; here = omega arith; small = omega arith }
 
-      go : (r : Result Node) → instructionOf d c (drop at s) ≡ r → stepBy r ≡ Row l a k → Fits s at l k
+      go : (r : Result Node) → instructionOf d c (a + at) (drop at s) ≡ r → stepBy r ≡ Row l x k → Fits s at l k
       go (done n m st) p q =
-          let x : m ≡ l = cc in
-          let y : rootNumber n ≡ k = cc in
-          let f = in-bounds d c (drop at s) n m st p in
+          let size : m ≡ l = cc in
+          let root : rootNumber n ≡ k = cc in
+          let f = in-bounds d c (a + at) (drop at s) n m st p in
           record {
             some = omega (arith, f .some);
             here = omega (arith, f .here, length-drop at s);
-            small = omega (arith, root-small d n few (shaped d o c (drop at s) n m st p));
+            small = omega (arith, root-small d n few (shaped d o c (a + at) (drop at s) n m st p));
           }
       go (refused r) p q = refusal (isShort r) (refusalNumber r) q
 
   -- a place that has a row has the same one where more code follows
-  pub step-stays : (m : List ℕ) → at ≤ length s → (l a k : ℕ) → stepAt d c s at ≡ Row l a k → stepAt d c (s ++ m) at ≡ Row l a k
+  pub step-stays : (m : List ℕ) → at ≤ length s → (l x k : ℕ) → stepAt d c a s at ≡ Row l x k → stepAt d c a (s ++ m) at ≡ Row l x k
   unfolding stepAt
-  step-stays m h l a k e =
-      ap (λ (x : List ℕ). stepBy (instructionOf d c x)) (drop-append-le at s m h)
-      ∙ ap stepBy (stays d o c (drop at s) m (λ p q. let y : Stop ≡ Row l a k = sym (ap stepBy q) ∙ e in let z : _≡_ {A = ℕ} 0 1 = cc in omega arith))
+  step-stays m h l x k e =
+      ap (λ (t : List ℕ). stepBy (instructionOf d c (a + at) t)) (drop-append-le at s m h)
+      ∙ ap stepBy (stays d o c (a + at) (drop at s) m (λ p q. let y : Stop ≡ Row l x k = sym (ap stepBy q) ∙ e in let z : _≡_ {A = ℕ} 0 1 = cc in omega arith))
       ∙ e

@@ -14,10 +14,11 @@ use Rattle.format.specs.Description.{Description, description}
 use Rattle.format.specs.declared.Layout.{Layout}
 use Rattle.format.proofs.Formation.{RulesHold}
 use Rattle.decoding_spec.specs.State.{Setting}
-use Rattle.decoding_spec.specs.Walk.{instructionOf}
+use Rattle.decoding_spec.specs.Instruction.{instructionOf}
 use Rattle.setting.specs.Fixed.{Fixed, fixedOf, settingIn}
 use Rattle.setting.proofs.Laws.{obeyed-in, few-in, fixed-of, setting-of, fixed-for, setting-for}
-use Rattle.walking.specs.Walks.{resultAt, toldLength}
+use Rattle.walking.specs.Walks.{toldLength}
+use Rattle.instructions.specs.Instructions.{resultAt}
 use Rattle.sweep.specs.Sweep.{SweepRow, Sweep, joined, endAt, rowAt, noRoot, stepBy, stepAt, sweepFrom, sweepIn, numbersOf}
 use Rattle.sweep.specs.Buffer.{Outcome, OutcomeIn, bufferWithRow}
 use Rattle.sweep.specs.declared.End.{End}
@@ -60,33 +61,33 @@ row-behind a old r n e =
     ∙ drop-drop 4 (sweepNumbers * n) old ∙ ap (λ (m : ℕ). drop m old) y in
     rw (take-at a (drop (sweepNumbers * n) old) (sweepNumbers * n) e, tail) (sym (append-assoc a (numbersOf (r ∷ [])) (drop (sweepNumbers * (n + 1)) old)))
 
-module _ (d : Description) (c : ℕ) (s : List ℕ) where
+module _ (d : Description) (c a : ℕ) (s : List ℕ) where
   -- what comes at a place
-  pub used-up : (room at : ℕ) → length s ≤ at → sweepFrom d c s room at ≡ endAt end.Used at
+  pub used-up : (room at : ℕ) → length s ≤ at → sweepFrom d c a s room at ≡ endAt end.Used at
   unfolding sweepFrom
   used-up zero at h = rw (le-leb (length s) at h)
   used-up (suc room) at h = rw (le-leb (length s) at h)
 
-  pub no-room : (room at : ℕ) → at < length s → room ≡ 0 → sweepFrom d c s room at ≡ endAt end.Full at
+  pub no-room : (room at : ℕ) → at < length s → room ≡ 0 → sweepFrom d c a s room at ≡ endAt end.Full at
   unfolding sweepFrom
   no-room room at h e = rw (e, lt-leb (length s) at h)
 
-  pub stops : (room at : ℕ) → at < length s → 0 < room → stepAt d c s at ≡ Stop → sweepFrom d c s room at ≡ endAt end.Short at
+  pub stops : (room at : ℕ) → at < length s → 0 < room → stepAt d c a s at ≡ Stop → sweepFrom d c a s room at ≡ endAt end.Short at
   unfolding sweepFrom
   stops zero at h r e = absurd (omega arith)
   stops (suc room) at h r e = rw (lt-leb (length s) at h, e)
 
-  pub goes-on : (room at l a k : ℕ) → at < length s → 0 < room → stepAt d c s at ≡ Row l a k
-      → sweepFrom d c s room at ≡ joined (rowAt at l a k ∷ []) (sweepFrom d c s (room - 1) (at + l))
+  pub goes-on : (room at l x k : ℕ) → at < length s → 0 < room → stepAt d c a s at ≡ Row l x k
+      → sweepFrom d c a s room at ≡ joined (rowAt at l x k ∷ []) (sweepFrom d c a s (room - 1) (at + l))
   unfolding sweepFrom
-  goes-on zero at l a k h r e = absurd (omega arith)
-  goes-on (suc room) at l a k h r e = let z : suc room - 1 ≡ room = omega arith in rw (z, lt-leb (length s) at h, e)
+  goes-on zero at l x k h r e = absurd (omega arith)
+  goes-on (suc room) at l x k h r e = let z : suc room - 1 ≡ room = omega arith in rw (z, lt-leb (length s) at h, e)
 
   -- after n rows, at place `at`
   pub record Progress (room : ℕ) (old new : List ℤ) (at n : ℕ) : Type 0 where
     pub written : List SweepRow
     pub count : length written ≡ n
-    pub whole : sweepFrom d c s room 0 ≡ joined written (sweepFrom d c s (room - n) at)
+    pub whole : sweepFrom d c a s room 0 ≡ joined written (sweepFrom d c a s (room - n) at)
     pub rows : new ≡ numbersOf written ++ drop (sweepNumbers * n) old
     pub inside : at ≤ length s
     pub few : n ≤ room
@@ -105,9 +106,9 @@ module _ (d : Description) (c : ℕ) (s : List ℕ) where
         ∙ omega (arith, numbers-length (turn .written), turn .count, length-drop (sweepNumbers * n) old, turn .few, turn .lent)
 
     -- the end: nothing comes behind the rows that are written
-    pub swept : (why : End) → sweepFrom d c s (room - n) at ≡ endAt why at → Outcome (sweepFrom d c s room 0) (Ended why n at) old new
+    pub swept : (why : End) → sweepFrom d c a s (room - n) at ≡ endAt why at → Outcome (sweepFrom d c a s room 0) (Ended why n at) old new
     swept why e =
-        let whole : sweepFrom d c s room 0 ≡ record { rows = turn .written ++ []; why = why; next = at } = turn .whole ∙ ap (joined (turn .written)) e in
+        let whole : sweepFrom d c a s room 0 ≡ record { rows = turn .written ++ []; why = why; next = at } = turn .whole ∙ ap (joined (turn .written)) e in
         let all : turn .written ++ [] ≡ turn .written = append-nil (turn .written) in
         rw whole
         (record {
@@ -116,61 +117,61 @@ module _ (d : Description) (c : ℕ) (s : List ℕ) where
         })
 
     -- one row more
-    pub next-row : (l a k : ℕ) (new′ : List ℤ) → at < length s → n < room → stepAt d c s at ≡ Row l a k → at + l ≤ length s
-        → new′ ≡ bufferWithRow n (rowAt at l a k) new → Progress room old new′ (at + l) (n + 1)
-    next-row l a k new′ h f e g p =
-        let r : SweepRow = rowAt at l a k in
-        let rest : Sweep = sweepFrom d c s (room - (n + 1)) (at + l) in
+    pub next-row : (l x k : ℕ) (new′ : List ℤ) → at < length s → n < room → stepAt d c a s at ≡ Row l x k → at + l ≤ length s
+        → new′ ≡ bufferWithRow n (rowAt at l x k) new → Progress room old new′ (at + l) (n + 1)
+    next-row l x k new′ h f e g p =
+        let r : SweepRow = rowAt at l x k in
+        let rest : Sweep = sweepFrom d c a s (room - (n + 1)) (at + l) in
         let z : room - n - 1 ≡ room - (n + 1) = omega arith in
         record {
           written = turn .written ++ (r ∷ []);
           count = length-append (turn .written) (r ∷ []) ∙ omega (arith, turn .count);
           whole =
               turn .whole
-              ∙ ap (joined (turn .written)) (goes-on (room - n) at l a k h (omega arith) e ∙ rw z)
-              ∙ ap (λ (x : List SweepRow). record { rows = x; why = rest .why; next = rest .next }) (sym (append-assoc (turn .written) (r ∷ []) (rest .rows)));
+              ∙ ap (joined (turn .written)) (goes-on (room - n) at l x k h (omega arith) e ∙ rw z)
+              ∙ ap (λ (rs : List SweepRow). record { rows = rs; why = rest .why; next = rest .next }) (sym (append-assoc (turn .written) (r ∷ []) (rest .rows)));
           rows =
               p ∙ ap (bufferWithRow n r) (turn .rows)
               ∙ row-behind (numbersOf (turn .written)) old r n (numbers-length (turn .written) ∙ ap (λ (m : ℕ). sweepNumbers * m) (turn .count))
-              ∙ ap (λ (x : List ℤ). x ++ drop (sweepNumbers * (n + 1)) old) (sym (numbers-append (turn .written) (r ∷ [])));
+              ∙ ap (λ (ns : List ℤ). ns ++ drop (sweepNumbers * (n + 1)) old) (sym (numbers-append (turn .written) (r ∷ [])));
           inside = g;
           few = omega arith;
           lent = turn .lent;
         }
 
 -- the loop after n rows, at place `at`: b are the description's bytes, a₀ the fixed numbers at the start and a those now
-pub record LoopState (b a₀ : List ℕ) (c : ℕ) (s : List ℕ) (room : ℕ) (old new : List ℤ) (a : List ℕ) (at n : ℕ) : Type 0 where
+pub record LoopState (b a₀ : List ℕ) (c address : ℕ) (s : List ℕ) (room : ℕ) (old new : List ℤ) (a : List ℕ) (at n : ℕ) : Type 0 where
   pub fixed : Fixed b a
   pub same : settingIn b a .description ≡ settingIn b a₀ .description
-  pub progress : Progress (settingIn b a₀ .description) c s room old new at n
+  pub progress : Progress (settingIn b a₀ .description) c address s room old new at n
 
-pub first-turn : (b a : List ℕ) (c : ℕ) (s : List ℕ) (room : ℕ) (old : List ℤ) → Fixed b a → sweepNumbers * room ≤ length old
-    → LoopState b a c s room old old a 0 0
-first-turn b a c s room old f h = record { fixed = f; same = refl; progress = no-row (settingIn b a .description) c s room old h }
+pub first-turn : (b a : List ℕ) (c address : ℕ) (s : List ℕ) (room : ℕ) (old : List ℤ) → Fixed b a → sweepNumbers * room ≤ length old
+    → LoopState b a c address s room old old a 0 0
+first-turn b a c address s room old f h = record { fixed = f; same = refl; progress = no-row (settingIn b a .description) c address s room old h }
 
-module _ (b a₀ : List ℕ) (c : ℕ) (s : List ℕ) (room : ℕ) (old new : List ℤ) (a : List ℕ) (at n : ℕ) (turn : LoopState b a₀ c s room old new a at n) where
+module _ (b a₀ : List ℕ) (c address : ℕ) (s : List ℕ) (room : ℕ) (old new : List ℤ) (a : List ℕ) (at n : ℕ) (turn : LoopState b a₀ c address s room old new a at n) where
   -- the step at the place
-  pub step-here : stepBy (resultAt b a s at c) ≡ stepAt (settingIn b a₀ .description) c s at
+  pub step-here : stepBy (resultAt b a s at c address) ≡ stepAt (settingIn b a₀ .description) c address s at
   unfolding resultAt stepAt
-  step-here = ap (λ (d : Description). stepBy (instructionOf d c (drop at s))) (turn .same)
+  step-here = ap (λ (d : Description). stepBy (instructionOf d c (address + at) (drop at s))) (turn .same)
 
-  module _ (l k x : ℕ) (e : stepBy (resultAt b a s at c) ≡ Row l k x) (h : at < length s) where
+  module _ (l k x : ℕ) (e : stepBy (resultAt b a s at c address) ≡ Row l k x) (h : at < length s) where
     -- its row fits
     pub row-fits : Fits s at l x
     row-fits =
         let few : length (settingIn b a₀ .description .constructors) ≤ noRoot = rw (← turn .same) (omega (arith, few-in b a (turn .fixed))) in
         let o : RulesHold (settingIn b a₀ .description) = rw (turn .same) at (obeyed-in b a (turn .fixed)) in
-        step-fits (settingIn b a₀ .description) o c s at few h l k x (sym step-here ∙ e)
+        step-fits (settingIn b a₀ .description) o c address s at few h l k x (sym step-here ∙ e)
 
     -- and with it the loop goes on
     pub next-turn : (new′ : List ℤ) (a′ : List ℕ) → n < room → a′ ≡ toldLength a s at → new′ ≡ bufferWithRow n (rowAt at l k x) new
-        → LoopState b a₀ c s room old new′ a′ (at + l) (n + 1)
+        → LoopState b a₀ c address s room old new′ a′ (at + l) (n + 1)
     next-turn new′ a′ f told p =
         rw told
         (record {
           fixed = fixed-for b a (length s - at) (turn .fixed);
           same = ap (λ (g : Setting). g .description) (setting-for b a (length s - at) (omega (arith, turn .fixed .long))) ∙ turn .same;
-          progress = next-row _ c s room old new at n (turn .progress) l k x new′ h f (sym step-here ∙ e) (row-fits .here) p;
+          progress = next-row _ c address s room old new at n (turn .progress) l k x new′ h f (sym step-here ∙ e) (row-fits .here) p;
         })
 
 -- the fixed numbers are those that the description's places give
@@ -178,7 +179,7 @@ module _ (b : List ℕ) (l : Layout) (a₀ : List ℕ) (is : a₀ ≡ fixedOf (d
   pub fixed-here : WellFormed b l → Fixed b a₀
   fixed-here f = rw is (fixed-of b l true f)
 
-  pub outcome-in : (c : ℕ) (s : List ℕ) (old new : List ℤ) (r : Swept) → Outcome (sweepFrom (settingIn b a₀ .description) c s (length old / sweepNumbers) 0) r old new
-      → OutcomeIn b l c s old r new
+  pub outcome-in : (c address : ℕ) (s : List ℕ) (old new : List ℤ) (r : Swept) → Outcome (sweepFrom (settingIn b a₀ .description) c address s (length old / sweepNumbers) 0) r old new
+      → OutcomeIn b l c address s old r new
   unfolding sweepIn
-  outcome-in c s old new r w = rw (is, setting-of b l true) at w
+  outcome-in c address s old new r w = rw (is, setting-of b l true) at w

@@ -16,8 +16,8 @@ pub record Outcome (w : Sweep) (r : Swept) (old new : List ℤ) : Type 0 where
   pub rows : new ≡ bufferWith (w .rows) old
 
 -- of bytes b, which are an accepted description with these places
-abbrev pub OutcomeIn : (b : List ℕ) (l : Layout) (c : ℕ) (s : List ℕ) (old : List ℤ) (r : Swept) (new : List ℤ) → Type 0
-OutcomeIn b l c s old r new = Outcome (sweepIn (description b l) c s (length old)) r old new
+abbrev pub OutcomeIn : (b : List ℕ) (l : Layout) (c a : ℕ) (s : List ℕ) (old : List ℤ) (r : Swept) (new : List ℤ) → Type 0
+OutcomeIn b l c a s old r new = Outcome (sweepIn (description b l) c a s (length old)) r old new
 
 -- the lent numbers with row r as row i
 unfoldable pub bufferWithRow : ℕ → SweepRow → List ℤ → List ℤ

@@ -8,8 +8,9 @@ use lib.ListN.{length, drop}
 use Rattle.format.specs.Numbers.{sweepNumbers}
 use Rattle.format.specs.Description.{Description}
 use Rattle.acceptance.specs.Acceptance.{acceptanceOf, accepting, rejectionNumber, rejectionValues}
-use Rattle.decoding_spec.specs.Tree.{Node, built, numbered, named}
-use Rattle.decoding_spec.specs.Walk.{Result, done, refused, instructionOf}
+use Rattle.decoding_spec.specs.Tree.{Node, built, numbered, named, computed}
+use Rattle.decoding_spec.specs.Walk.{Result, done, refused}
+use Rattle.decoding_spec.specs.Instruction.{instructionOf}
 use Rattle.decoding_spec.specs.Refusals.{refusalNumber, isShort}
 use Rattle.decoding_spec.specs.declared.Refusal.{Refusal}
 use Rattle.sweep.specs.declared.End.{End}
@@ -36,6 +37,7 @@ abbrev pub rootNumber : Node → ℕ
 rootNumber (built k s l f) = k
 rootNumber (numbered i s v) = 0
 rootNumber (named i s n) = 0
+rootNumber (computed i s v) = 0
 
 -- the constructor of a gap, and its length
 abbrev pub noRoot : ℕ
@@ -44,7 +46,7 @@ noRoot = 65535
 abbrev pub gapLength : ℕ
 gapLength = 1
 
--- "Refusals 3 to 8 give a gap row (length 1, constructor 65,535)."
+-- "Refusals 3 to 8 give a gap row (length 1, constructor 65,535)."; 13: "in a sweep it makes a gap"
 abbrev pub gap : Refusal → Step
 gap r = cond (isShort r) Stop (Row gapLength (refusalNumber r) noRoot)
 
@@ -53,9 +55,10 @@ abbrev pub stepBy : Result Node → Step
 stepBy (done n l st) = Row l 0 (rootNumber n)
 stepBy (refused r) = gap r
 
--- "each row is that place's decoding": of the bytes from there to the end of the code
-unfoldable pub stepAt : Description → ℕ → List ℕ → ℕ → Step
-stepAt d c s at = stepBy (instructionOf d c (drop at s))
+-- "each row is that place's decoding": of the bytes from there to the end of the code; "a sweep [takes the address] of its byte 0",
+-- a, and "no address wraps"
+unfoldable pub stepAt : Description → (context address : ℕ) → List ℕ → ℕ → Step
+stepAt d c a s at = stepBy (instructionOf d c (a + at) (drop at s))
 
 -- some rows, then a sweep
 abbrev pub joined : List SweepRow → Sweep → Sweep
@@ -76,9 +79,9 @@ rowThen at Stop rest = endAt end.Short at
 
 -- "It ends, tested in this order before each row, with "used" at the input's end, "full" when no whole row is left, or "short"";
 -- "A done instruction moves on by its length." With room for so many rows.
-unfoldable pub sweepFrom : Description → ℕ → List ℕ → (room : ℕ) → (at : ℕ) → Sweep
-sweepFrom d c s zero at = cond (leb (length s) at) (endAt end.Used at) (endAt end.Full at)
-sweepFrom d c s (suc room) at = cond (leb (length s) at) (endAt end.Used at) (rowThen at (stepAt d c s at) (sweepFrom d c s room))
+unfoldable pub sweepFrom : Description → (context address : ℕ) → List ℕ → (room : ℕ) → (at : ℕ) → Sweep
+sweepFrom d c a s zero at = cond (leb (length s) at) (endAt end.Used at) (endAt end.Full at)
+sweepFrom d c a s (suc room) at = cond (leb (length s) at) (endAt end.Used at) (rowThen at (stepAt d c a s at) (sweepFrom d c a s room))
 
 -- "rows of four 64-bit numbers"
 unfoldable pub numbersOf : List SweepRow → List ℤ
@@ -86,8 +89,8 @@ numbersOf [] = []
 numbersOf (r ∷ rs) = pos (r .start) ∷ pos (r .length) ∷ pos (r .answer) ∷ pos (r .constructor) ∷ numbersOf rs
 
 -- of an accepted description, with so many numbers lent
-unfoldable pub sweepIn : Description → ℕ → List ℕ → ℕ → Sweep
-sweepIn d c s numbers = sweepFrom d c s (numbers / sweepNumbers) 0
+unfoldable pub sweepIn : Description → (context address : ℕ) → List ℕ → ℕ → Sweep
+sweepIn d c a s numbers = sweepFrom d c a s (numbers / sweepNumbers) 0
 
 -- what is answered of a sweep: "it returns the rows written and the next byte"
 abbrev pub answerOf : Sweep → Swept
@@ -97,13 +100,13 @@ answerOf w = Ended (w .why) (length (w .rows)) (w .next)
 abbrev pub bufferWith : List SweepRow → List ℤ → List ℤ
 bufferWith rs old = numbersOf rs ++ drop (sweepNumbers * length rs) old
 
--- bytes b as the description, context c, bytes s as the code, so many numbers lent
-unfoldable pub sweepOf : List ℕ → ℕ → List ℕ → ℕ → Swept
-sweepOf b c s numbers = accepting Rejected (λ d. answerOf (sweepIn d c s numbers)) b (acceptanceOf b)
+-- bytes b as the description, context c, address a of byte 0, bytes s as the code, so many numbers lent
+unfoldable pub sweepOf : List ℕ → (context address : ℕ) → List ℕ → ℕ → Swept
+sweepOf b c a s numbers = accepting Rejected (λ d. answerOf (sweepIn d c a s numbers)) b (acceptanceOf b)
 
 -- the lent numbers afterwards
-unfoldable pub bufferAfter : List ℕ → ℕ → List ℕ → List ℤ → List ℤ
-bufferAfter b c s old = accepting (λ x. old) (λ d. bufferWith (sweepIn d c s (length old) .rows) old) b (acceptanceOf b)
+unfoldable pub bufferAfter : List ℕ → (context address : ℕ) → List ℕ → List ℤ → List ℤ
+bufferAfter b c a s old = accepting (λ x. old) (λ d. bufferWith (sweepIn d c a s (length old) .rows) old) b (acceptanceOf b)
 
 -- the ends, numbered
 abbrev pub endNumber : End → ℕ

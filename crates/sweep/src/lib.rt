@@ -11,7 +11,8 @@ ghost use lib.ListN.{length};
 ghost use Rattle.format.specs.Numbers.{sweepNumbers};
 ghost use Rattle.format.specs.Check.{WellFormed};
 ghost use Rattle.setting.specs.Fixed.{Fixed};
-ghost use Rattle.walking.specs.Walks.{resultAt, toldLength};
+ghost use Rattle.walking.specs.Walks.{toldLength};
+ghost use Rattle.instructions.specs.Instructions.{resultAt};
 ghost use Rattle.sweep.specs.Sweep.{gap, stepBy, rowAt, sweepOf, bufferAfter};
 ghost use Rattle.sweep.specs.Buffer.{OutcomeIn, bufferWithRow};
 
@@ -58,13 +59,20 @@ fn gap_of(refusal: Refusal) -> Step
     }
 }
 
-// The decoding at a place, from there to the end of the code.
-fn step_at(desc: &[u8], fixed: &mut [usize; FIXED], context: u32, code: &[u8], at: usize) -> Step
+// The decoding at a place, from there to the end of the code, whose byte 0 has this address.
+fn step_at(
+    desc: &[u8],
+    fixed: &mut [usize; FIXED],
+    context: u32,
+    address: u32,
+    code: &[u8],
+    at: usize,
+) -> Step
     requires { ⌜ Fixed (now desc) (now fixed) × (at ≤ length (now code)) ⌝ }
-    ensures { λ r. ⌜ r ≡ stepBy (resultAt (now (desc .entry)) (now (fixed .entry)) (now (code .entry)) at context) ⌝ }
+    ensures { λ r. ⌜ r ≡ stepBy (resultAt (now (desc .entry)) (now (fixed .entry)) (now (code .entry)) at context address) ⌝ }
     ensures { λ _. ⌜ now (fixed .exit) ≡ toldLength (now (fixed .entry)) (now (code .entry)) at ⌝ }
 {
-    let walked = walking::step_at(desc, fixed, context, code, at);
+    let walked = instructions::step_at(desc, fixed, context, address, code, at);
     match walked {
         Walked::Refused(refusal) => gap_of(refusal),
         Walked::Done { state, length } => Step::Row {
@@ -88,9 +96,16 @@ fn put_row(rows: &mut [i64], i: usize, start: usize, size: usize, answer: u8, co
     rows[at + 3] = constructor as i64;
 }
 
-fn sweep_in(desc: &[u8], layout: Layout, context: u32, code: &[u8], rows: &mut [i64]) -> Swept
+fn sweep_in(
+    desc: &[u8],
+    layout: Layout,
+    context: u32,
+    address: u32,
+    code: &[u8],
+    rows: &mut [i64],
+) -> Swept
     requires { ⌜ WellFormed (now desc) layout ⌝ }
-    ensures { λ r. ⌜ OutcomeIn (now (desc .entry)) layout context (now (code .entry)) (now (rows .entry)) r (now (rows .exit)) ⌝ }
+    ensures { λ r. ⌜ OutcomeIn (now (desc .entry)) layout context address (now (code .entry)) (now (rows .entry)) r (now (rows .exit)) ⌝ }
 {
     let mut fixed = setting::fill(desc, layout, true);
     let room = rows.len() / NUMBERS;
@@ -104,7 +119,7 @@ fn sweep_in(desc: &[u8], layout: Layout, context: u32, code: &[u8], rows: &mut [
                 next: at,
             };
         }
-        let found = step_at(desc, &mut fixed, context, code, at);
+        let found = step_at(desc, &mut fixed, context, address, code, at);
         match found {
             Step::Stop => {
                 return Swept::Ended {
@@ -131,14 +146,14 @@ fn sweep_in(desc: &[u8], layout: Layout, context: u32, code: &[u8], rows: &mut [
     }
 }
 
-// Any bytes as the description and as the code, any context, any room for rows.
-pub fn sweep(desc: &[u8], context: u32, code: &[u8], rows: &mut [i64]) -> Swept
-    ensures { λ r. ⌜ r ≡ sweepOf (now (desc .entry)) context (now (code .entry)) (length (now (rows .entry))) ⌝ }
-    ensures { λ _. ⌜ now (rows .exit) ≡ bufferAfter (now (desc .entry)) context (now (code .entry)) (now (rows .entry)) ⌝ }
+// Any bytes as the description and as the code, any context, any address of the code's byte 0, any room for rows.
+pub fn sweep(desc: &[u8], context: u32, address: u32, code: &[u8], rows: &mut [i64]) -> Swept
+    ensures { λ r. ⌜ r ≡ sweepOf (now (desc .entry)) context address (now (code .entry)) (length (now (rows .entry))) ⌝ }
+    ensures { λ _. ⌜ now (rows .exit) ≡ bufferAfter (now (desc .entry)) context address (now (code .entry)) (now (rows .entry)) ⌝ }
 {
     let acceptance = acceptance::accept(desc);
     match acceptance {
-        Acceptance::Accepted(layout) => sweep_in(desc, layout, context, code, rows),
+        Acceptance::Accepted(layout) => sweep_in(desc, layout, context, address, code, rows),
         Acceptance::Rejected(rejection) => Swept::Rejected(rejection),
     }
 }

@@ -6,25 +6,21 @@ use native.Mathlib.Numerals.{add-one}
 use native.Mathlib.Omega.{arith}
 use native.Mathlib.Decide.{decLt}
 use borrow.Author.Tests.{ne-eqb}
-use lib.IntN.{ℤ, pos, natAbs}
+use lib.IntN.{ℤ, natAbs}
 use lib.ListN.{length, getD, length-append}
 use Rattle.format.specs.Numbers.{mostRows}
 use Rattle.format.specs.Description.{Description, noField, noPiece}
 use Rattle.format.specs.declared.Piece.{Piece}
 use Rattle.fields.specs.Look.{lookOf}
 use Rattle.printing.specs.Numerals.{numberText}
-use Rattle.walking.specs.Scratch.{scratchNumbers}
 use Rattle.printing.specs.declared.Printed.{Printed}
 use Rattle.printing.specs.declared.Printed.the-variants.{Wrote, Full}
-use Rattle.text.specs.Text.{baseOf, letters, pieceText, piecesText, constructorText, nameText}
-use Rattle.text.specs.Places.{kindAt, numberAt, lastAt, textAt, operandText}
+use Rattle.text.specs.Text.{baseOf, computedText, letters, pieceText, piecesText, constructorText, nameText}
+use Rattle.scratch_rows.specs.Places.{kindAt, numberAt, lastAt}
+use Rattle.text.specs.Places.{textAt, operandText}
 use Rattle.text.specs.Append.{Appended, Appends}
 use Rattle.text.specs.Prints.{Printable}
 use Rattle.text.proofs.Writers.{appended-none, appended-more, full-more}
-
-pub kind-here : (rows : List ℤ) (r k : ℕ) → k ≡ natAbs (getD rows (scratchNumbers * r) (pos 0)) → k ≡ kindAt rows r
-unfolding kindAt
-kind-here rows r k e = let z : scratchNumbers * r + 0 ≡ scratchNumbers * r = omega arith in rw z e
 
 -- at another row and another place
 pub moved : {b a : List ℕ} {rows : List ℤ} {used r r′ : ℕ} {out out′ : List ℕ} {at at′ : ℕ} → Printable b a rows used r out at → r′ < used
@@ -39,11 +35,17 @@ module _ (d : Description) (rows : List ℤ) (r : ℕ) (room : r < mostRows) (at
   part-number k h zero g = absurd (omega arith)
   part-number k h (suc depth) g = rw k h
 
-  pub part-name : (kindAt rows r ≡ 0 → ⊥) → (kindAt rows r ≡ 1 → ⊥) → Appends at (nameText d (natAbs (lastAt rows r))) before after p
+  pub part-computed : kindAt rows r ≡ 3 → Appends at (numberText 16 (lastAt rows r)) before after p
+      → (depth : ℕ) → mostRows < r + depth → Appends at (textAt d rows depth r) before after p
+  unfolding textAt computedText
+  part-computed k h zero g = absurd (omega arith)
+  part-computed k h (suc depth) g = rw k h
+
+  pub part-name : (kindAt rows r ≡ 0 → ⊥) → (kindAt rows r ≡ 1 → ⊥) → (kindAt rows r ≡ 3 → ⊥) → Appends at (nameText d (natAbs (lastAt rows r))) before after p
       → (depth : ℕ) → mostRows < r + depth → Appends at (textAt d rows depth r) before after p
   unfolding textAt
-  part-name k l h zero g = absurd (omega arith)
-  part-name k l h (suc depth) g = rw (ne-eqb (kindAt rows r) 0 k, ne-eqb (kindAt rows r) 1 l) h
+  part-name k l m h zero g = absurd (omega arith)
+  part-name k l m h (suc depth) g = rw (ne-eqb (kindAt rows r) 0 k, ne-eqb (kindAt rows r) 1 l, ne-eqb (kindAt rows r) 3 m) h
 
   pub part-constructor : kindAt rows r ≡ 0
       → ((depth : ℕ) → mostRows < r + 1 + depth

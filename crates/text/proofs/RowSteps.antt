@@ -4,7 +4,7 @@ use mathlib.Core.List.{List}
 use mathlib.Core.Path.{_≡_, refl}
 use native.Mathlib.Omega.{arith}
 use lib.IntN.{ℤ}
-use Rattle.text.specs.Places.{sizeAt, skip}
+use Rattle.scratch_rows.specs.Places.{sizeAt, skip}
 
 pub skip-on : (rows : List ℤ) (r j : ℕ) → r ≤ skip rows r j
 unfolding skip

@@ -1,38 +1,29 @@
 -- Rows that a tree has left: they are sound, and their text is the tree's.
-use Prim.Native.Nat.{ℕ, zero, suc, _+_, _-_, _*_, _≤_, _<_}
-use mathlib.Core.List.{List, [], _∷_, _++_, append-assoc}
-use mathlib.Core.Path.{_≡_, refl, sym, ap, _∙_}
+use Prim.Native.Nat.{ℕ, zero, suc, _+_, _-_, _≤_, _<_}
+use mathlib.Core.List.{List, [], _++_}
+use mathlib.Core.Path.{_≡_, refl, ap, _∙_}
 use native.Mathlib.Decide.{ℕ-discrete, decLt}
 use native.Mathlib.Omega.{arith}
 use borrow.Author.Tests.{eq-eqb, ne-eqb}
-use lib.IntN.{ℤ, pos, natAbs}
-use lib.ListN.{length, getD, drop, length-append}
-use lib.Seq.{getD-drop, drop-drop, drop-at}
+use lib.IntN.{ℤ, natAbs}
+use lib.ListN.{length, getD, length-append}
 use Rattle.format.specs.Numbers.{mostRows}
 use Rattle.format.specs.Description.{Description, noConstructor}
 use Rattle.format.specs.declared.Piece.{Piece}
 use Rattle.format.proofs.Formation.{RulesHold}
-use Rattle.decoding_spec.specs.Tree.{Node, Nodes, built, numbered, named, none, more}
+use Rattle.decoding_spec.specs.Tree.{Node, Nodes, built, numbered, named, computed, none, more}
 use Rattle.decoding_theorems.specs.Facts.{Shaped, ShapedAll, countOf}
-use Rattle.walking.specs.Scratch.{scratchNumbers, scratchLength, SizedRow, sized, sizedOf, sizedOfAll, scratchRow, scratchOf, putAt, written}
-use Rattle.walking.proofs.Writing.{scratch-length, scratch-append, written-length}
+use Rattle.walking.specs.Scratch.{scratchLength, sizedOf, sizedOfAll, scratchOf, written}
+use Rattle.walking.proofs.Writing.{written-length}
+use Rattle.scratch_rows.specs.Places.{kindAt, numberAt, lastAt, sizeAt, skip}
+use Rattle.scratch_rows.proofs.Standing.{Stands, rows-some, stands-first, kind-is, number-is, last-is, part-size, neighbours, inner, stands-all}
 use Rattle.text.specs.Text.{pieceText, piecesText, constructorText, textOf, textsOf}
-use Rattle.text.specs.Places.{cell, kindAt, numberAt, lastAt, sizeAt, skip, textAt, SoundRows, Showable}
+use Rattle.text.specs.Places.{textAt, SoundRows, Showable}
 use Rattle.text.proofs.Pieces.{showable}
 
 by-cases : {P Q : Type 0} → Dec P → (P → Q) → ((P → ⊥) → Q) → Q
 by-cases (yes p) f g = f p
 by-cases (no p) f g = g p
-
--- a part has its own row
-pub rows-some : (n : Node) → 1 ≤ length (sizedOf n)
-unfolding sizedOf
-rows-some (built k s l f) = omega arith
-rows-some (numbered i s v) = omega arith
-rows-some (named i s n) = omega arith
-
-scratch-split : (a b : List SizedRow) (rest : List ℤ) → scratchOf (a ++ b) ++ rest ≡ scratchOf a ++ (scratchOf b ++ rest)
-scratch-split a b rest = rw scratch-append (append-assoc (scratchOf a) (scratchOf b) rest)
 
 -- a constructor's pieces ask for no other texts than its operands'
 module _ (d : Description) (o : RulesHold d) (k : ℕ) (h : k < length (d .constructors)) (f g : ℕ → List ℕ)
@@ -55,67 +46,8 @@ module _ (d : Description) (o : RulesHold d) (k : ℕ) (h : k < length (d .const
   constructor-same = pieces-same (getD (d .constructors) k noConstructor .pieces .count) (omega arith)
 
 module _ (rows : List ℤ) where
-  -- from row r on these rows stand, and behind them these numbers
-  unfoldable Stands : ℕ → List SizedRow → List ℤ → Type 0
-  Stands r rs rest = drop (scratchNumbers * r) rows ≡ scratchOf rs ++ rest
-
-  stands-first : (r : ℕ) (a b : List SizedRow) (rest : List ℤ) → Stands r (a ++ b) rest → Stands r a (scratchOf b ++ rest)
-  unfolding Stands
-  stands-first r a b rest h = h ∙ scratch-split a b rest
-
-  stands-behind : (r n : ℕ) (a b : List SizedRow) (rest : List ℤ) → n ≡ length a → Stands r (a ++ b) rest → Stands (r + n) b rest
-  unfolding Stands
-  stands-behind r n a b rest e h =
-      let z : scratchNumbers * (r + n) ≡ scratchNumbers * r + scratchNumbers * n = omega arith in
-      rw z
-      (sym (drop-drop (scratchNumbers * n) (scratchNumbers * r) rows)
-      ∙ ap (drop (scratchNumbers * n)) (stands-first r a b rest h)
-      ∙ drop-at (scratchOf a) (scratchOf b ++ rest) (scratchNumbers * n) (scratch-length a ∙ omega arith))
-
-  module _ (r : ℕ) (x : SizedRow) (rs : List SizedRow) (rest : List ℤ) (h : Stands r (x ∷ rs) rest) where
-    at : (j : ℕ) → cell rows r j ≡ getD (scratchRow x ++ (scratchOf rs ++ rest)) j (pos 0)
-    unfolding Stands scratchOf
-    at j = sym (getD-drop (scratchNumbers * r) rows j (pos 0)) ∙ ap (λ (l : List ℤ). getD l j (pos 0)) h
-
-    kind-is : kindAt rows r ≡ x .row .kind
-    unfolding kindAt
-    kind-is = ap natAbs (at 0)
-
-    number-is : numberAt rows r ≡ x .row .number
-    unfolding numberAt
-    number-is = ap natAbs (at 1)
-
-    last-is : lastAt rows r ≡ x .row .last
-    unfolding lastAt
-    last-is = at 3
-
-    size-is : sizeAt rows r ≡ x .size
-    unfolding sizeAt
-    size-is = ap natAbs (at 4)
-
-  -- a part's first row says how many rows it has
-  part-size : (n : Node) (r : ℕ) (rest : List ℤ) → Stands r (sizedOf n) rest → sizeAt rows r ≡ length (sizedOf n)
-  unfolding sizedOf
-  part-size (built k s l f) r rest h = size-is r _ (sizedOfAll f) rest h
-  part-size (numbered i s v) r rest h = size-is r _ [] rest h
-  part-size (named i s n) r rest h = size-is r _ [] rest h
-
-  -- the right neighbours of a part
-  neighbours : (n : Node) (f : Nodes) (r : ℕ) (rest : List ℤ) → Stands r (sizedOfAll (more n f)) rest → Stands (r + sizeAt rows r) (sizedOfAll f) rest
-  unfolding sizedOfAll
-  neighbours n f r rest h =
-      stands-behind r (sizeAt rows r) (sizedOf n) (sizedOfAll f) rest
-      (part-size n r (scratchOf (sizedOfAll f) ++ rest) (stands-first r (sizedOf n) (sizedOfAll f) rest h)) h
-
-  -- a constructor's operands
-  inner : (k s l : ℕ) (f : Nodes) (r : ℕ) (rest : List ℤ) → Stands r (sizedOf (built k s l f)) rest → Stands (r + 1) (sizedOfAll f) rest
-  unfolding sizedOf
-  inner k s l f r rest h =
-      stands-behind r 1
-      (sized 0 k s (pos l) (suc (length (sizedOfAll f))) ∷ []) (sizedOfAll f) rest refl h
-
   -- each of the neighbours has its row among theirs
-  skip-within : (f : Nodes) (r : ℕ) (rest : List ℤ) → Stands r (sizedOfAll f) rest → (j : ℕ) → j < countOf f
+  skip-within : (f : Nodes) (r : ℕ) (rest : List ℤ) → Stands rows r (sizedOfAll f) rest → (j : ℕ) → j < countOf f
       → (r ≤ skip rows r j) × (skip rows r j < r + length (sizedOfAll f))
   unfolding skip countOf sizedOfAll
   skip-within none r rest h j l = absurd (omega arith)
@@ -124,8 +56,8 @@ module _ (rows : List ℤ) where
       (omega arith, omega (arith, few, rows-some n))
   skip-within (more n f) r rest h (suc j) l =
       let few = length-append (sizedOf n) (sizedOfAll f) in
-      let size = part-size n r (scratchOf (sizedOfAll f) ++ rest) (stands-first r (sizedOf n) (sizedOfAll f) rest h) in
-      let next = skip-within f (r + sizeAt rows r) rest (neighbours n f r rest h) j (omega arith) in
+      let size = part-size rows n r (scratchOf (sizedOfAll f) ++ rest) (stands-first rows r (sizedOf n) (sizedOfAll f) rest h) in
+      let next = skip-within f (r + sizeAt rows r) rest (neighbours rows n f r rest h) j (omega arith) in
       (omega (arith, next .0), omega (arith, next .1))
 
   module _ (d : Description) where
@@ -135,39 +67,47 @@ module _ (rows : List ℤ) where
       operands : kindAt rows r ≡ 0 → (j : ℕ) → j < getD (d .constructors) (numberAt rows r) noConstructor .operands .count
           → (r < skip rows (r + 1) j) × (skip rows (r + 1) j < end)
       fields : kindAt rows r ≡ 1 → numberAt rows r < length (d .fields)
-      names : (kindAt rows r ≡ 0 → ⊥) → (kindAt rows r ≡ 1 → ⊥) → natAbs (lastAt rows r) < length (d .names)
+      names : (kindAt rows r ≡ 0 → ⊥) → (kindAt rows r ≡ 1 → ⊥) → (kindAt rows r ≡ 3 → ⊥) → natAbs (lastAt rows r) < length (d .names)
 
     -- a part's first row
-    first-sound : (n : Node) (r : ℕ) (rest : List ℤ) → Shaped d n → Stands r (sizedOf n) rest → SoundRow (r + length (sizedOf n)) r
+    first-sound : (n : Node) (r : ℕ) (rest : List ℤ) → Shaped d n → Stands rows r (sizedOf n) rest → SoundRow (r + length (sizedOf n)) r
     unfolding sizedOf
     first-sound (built k s l f) r rest shaped h =
-        let kind = kind-is r _ (sizedOfAll f) rest h in
-        let number = number-is r _ (sizedOfAll f) rest h in
+        let kind = kind-is rows r _ (sizedOfAll f) rest h in
+        let number = number-is rows r _ (sizedOfAll f) rest h in
         record {
           constructors = λ z. omega (arith, shaped .0);
           operands = λ z j b.
-              let within = skip-within f (r + 1) rest (inner k s l f r rest h) j (rw (shaped .1) (rw number at b)) in
+              let within = skip-within f (r + 1) rest (inner rows k s l f r rest h) j (rw (shaped .1) (rw number at b)) in
               (omega (arith, within .0), omega (arith, within .1));
           fields = λ z. absurd (omega arith);
-          names = λ z y. absurd (z kind);
+          names = λ z y x. absurd (z kind);
         }
     first-sound (numbered i s v) r rest shaped h =
-        let kind = kind-is r _ [] rest h in
-        let number = number-is r _ [] rest h in
+        let kind = kind-is rows r _ [] rest h in
+        let number = number-is rows r _ [] rest h in
         record {
           constructors = λ z. absurd (omega arith);
           operands = λ z j b. absurd (omega arith);
           fields = λ z. omega arith;
-          names = λ z y. absurd (y kind);
+          names = λ z y x. absurd (y kind);
         }
     first-sound (named i s n) r rest shaped h =
-        let kind = kind-is r _ [] rest h in
-        let last = ap natAbs (last-is r _ [] rest h) in
+        let kind = kind-is rows r _ [] rest h in
+        let last = ap natAbs (last-is rows r _ [] rest h) in
         record {
           constructors = λ z. absurd (omega arith);
           operands = λ z j b. absurd (omega arith);
           fields = λ z. absurd (omega arith);
-          names = λ z y. omega (arith, shaped .1);
+          names = λ z y x. omega (arith, shaped .1);
+        }
+    first-sound (computed i s v) r rest shaped h =
+        let kind = kind-is rows r _ [] rest h in
+        record {
+          constructors = λ z. absurd (omega arith);
+          operands = λ z j b. absurd (omega arith);
+          fields = λ z. absurd (omega arith);
+          names = λ z y x. absurd (x kind);
         }
 
     longer : (a b r : ℕ) → a ≤ b → SoundRow a r → SoundRow b r
@@ -181,7 +121,7 @@ module _ (rows : List ℤ) where
 
     module _ (end : ℕ) where
       -- a part's first row, or one of the others
-      either : (n : Node) (r : ℕ) (rest : List ℤ) → Shaped d n → Stands r (sizedOf n) rest → r + length (sizedOf n) ≤ end
+      either : (n : Node) (r : ℕ) (rest : List ℤ) → Shaped d n → Stands rows r (sizedOf n) rest → r + length (sizedOf n) ≤ end
           → (q : ℕ) → r ≤ q → (r < q → SoundRow end q) → SoundRow end q
       either n r rest shaped h e q l f =
           by-cases (decLt r q) f
@@ -190,67 +130,69 @@ module _ (rows : List ℤ) where
       mutual
         unfolding sizedOf sizedOfAll
 
-        part-sound : (n : Node) (r : ℕ) (rest : List ℤ) → Shaped d n → Stands r (sizedOf n) rest → r + length (sizedOf n) ≤ end
+        part-sound : (n : Node) (r : ℕ) (rest : List ℤ) → Shaped d n → Stands rows r (sizedOf n) rest → r + length (sizedOf n) ≤ end
             → (q : ℕ) → r ≤ q → q < r + length (sizedOf n) → SoundRow end q
         part-sound (built k s l f) r rest shaped h e q a b =
             either (built k s l f) r rest shaped h e q a
-            (λ c. parts-sound f (r + 1) rest (shaped .2) (inner k s l f r rest h) (omega arith) q (omega arith) (omega arith))
+            (λ c. parts-sound f (r + 1) rest (shaped .2) (inner rows k s l f r rest h) (omega arith) q (omega arith) (omega arith))
         part-sound (numbered i s v) r rest shaped h e q a b = either (numbered i s v) r rest shaped h e q a (λ c. absurd (omega arith))
         part-sound (named i s n) r rest shaped h e q a b = either (named i s n) r rest shaped h e q a (λ c. absurd (omega arith))
+        part-sound (computed i s v) r rest shaped h e q a b = either (computed i s v) r rest shaped h e q a (λ c. absurd (omega arith))
 
-        parts-sound : (f : Nodes) (r : ℕ) (rest : List ℤ) → ShapedAll d f → Stands r (sizedOfAll f) rest → r + length (sizedOfAll f) ≤ end
+        parts-sound : (f : Nodes) (r : ℕ) (rest : List ℤ) → ShapedAll d f → Stands rows r (sizedOfAll f) rest → r + length (sizedOfAll f) ≤ end
             → (q : ℕ) → r ≤ q → q < r + length (sizedOfAll f) → SoundRow end q
         parts-sound none r rest shaped h e q a b = absurd (omega arith)
         parts-sound (more n f) r rest shaped h e q a b =
             let few = length-append (sizedOf n) (sizedOfAll f) in
-            let own = stands-first r (sizedOf n) (sizedOfAll f) rest h in
-            let size = part-size n r (scratchOf (sizedOfAll f) ++ rest) own in
+            let own = stands-first rows r (sizedOf n) (sizedOfAll f) rest h in
+            let size = part-size rows n r (scratchOf (sizedOfAll f) ++ rest) own in
             by-cases (decLt q (r + length (sizedOf n)))
             (λ p. part-sound n r (scratchOf (sizedOfAll f) ++ rest) (shaped .0) own (omega arith) q a p)
-            (λ p. parts-sound f (r + sizeAt rows r) rest (shaped .1) (neighbours n f r rest h) (omega arith) q (omega arith) (omega arith))
+            (λ p. parts-sound f (r + sizeAt rows r) rest (shaped .1) (neighbours rows n f r rest h) (omega arith) q (omega arith) (omega arith))
 
     -- the text by the places is the tree's, where the depth leaves none of its rows out
     module _ (o : RulesHold d) where
       mutual
         unfolding sizedOf sizedOfAll countOf skip textAt textOf textsOf
 
-        part-text : (n : Node) (r depth : ℕ) (rest : List ℤ) → Shaped d n → Stands r (sizedOf n) rest → length (sizedOf n) ≤ depth
+        part-text : (n : Node) (r depth : ℕ) (rest : List ℤ) → Shaped d n → Stands rows r (sizedOf n) rest → length (sizedOf n) ≤ depth
             → textAt d rows depth r ≡ textOf d n
         part-text (built k s l f) r zero rest shaped h b = absurd (omega arith)
         part-text (built k s l f) r (suc depth) rest shaped h b =
-            let kind = kind-is r _ (sizedOfAll f) rest h in
-            let number = number-is r _ (sizedOfAll f) rest h in
+            let kind = kind-is rows r _ (sizedOfAll f) rest h in
+            let number = number-is rows r _ (sizedOfAll f) rest h in
             rw (eq-eqb (kindAt rows r) 0 kind, number)
             (constructor-same d o k (shaped .0) (λ n. textAt d rows depth (skip rows (r + 1) (n - 1))) (λ n. getD (textsOf d f) (n - 1) [])
-            (λ n some few. parts-text f (r + 1) depth rest (shaped .2) (inner k s l f r rest h) (omega arith) (n - 1) (omega (arith, shaped .1))))
+            (λ n some few. parts-text f (r + 1) depth rest (shaped .2) (inner rows k s l f r rest h) (omega arith) (n - 1) (omega (arith, shaped .1))))
         part-text (numbered i s v) r zero rest shaped h b = absurd (omega arith)
         part-text (numbered i s v) r (suc depth) rest shaped h b =
-            let kind = kind-is r _ [] rest h in
-            let number = number-is r _ [] rest h in
-            let last = last-is r _ [] rest h in
+            let kind = kind-is rows r _ [] rest h in
+            let number = number-is rows r _ [] rest h in
+            let last = last-is rows r _ [] rest h in
             rw (kind, number, last)
         part-text (named i s n) r zero rest shaped h b = absurd (omega arith)
         part-text (named i s n) r (suc depth) rest shaped h b =
-            let kind = kind-is r _ [] rest h in
-            let last = last-is r _ [] rest h in
+            let kind = kind-is rows r _ [] rest h in
+            let last = last-is rows r _ [] rest h in
+            rw (kind, last)
+        part-text (computed i s v) r zero rest shaped h b = absurd (omega arith)
+        part-text (computed i s v) r (suc depth) rest shaped h b =
+            let kind = kind-is rows r _ [] rest h in
+            let last = last-is rows r _ [] rest h in
             rw (kind, last)
 
-        parts-text : (f : Nodes) (r depth : ℕ) (rest : List ℤ) → ShapedAll d f → Stands r (sizedOfAll f) rest → length (sizedOfAll f) ≤ depth
+        parts-text : (f : Nodes) (r depth : ℕ) (rest : List ℤ) → ShapedAll d f → Stands rows r (sizedOfAll f) rest → length (sizedOfAll f) ≤ depth
             → (j : ℕ) → j < countOf f → textAt d rows depth (skip rows r j) ≡ getD (textsOf d f) j []
         parts-text none r depth rest shaped h l j c = absurd (omega arith)
         parts-text (more n f) r depth rest shaped h l zero c =
-            part-text n r depth (scratchOf (sizedOfAll f) ++ rest) (shaped .0) (stands-first r (sizedOf n) (sizedOfAll f) rest h)
+            part-text n r depth (scratchOf (sizedOfAll f) ++ rest) (shaped .0) (stands-first rows r (sizedOf n) (sizedOfAll f) rest h)
             (omega (arith, length-append (sizedOf n) (sizedOfAll f)))
         parts-text (more n f) r depth rest shaped h l (suc j) c =
-            parts-text f (r + sizeAt rows r) depth rest (shaped .1) (neighbours n f r rest h)
+            parts-text f (r + sizeAt rows r) depth rest (shaped .1) (neighbours rows n f r rest h)
             (omega (arith, length-append (sizedOf n) (sizedOfAll f))) j (omega arith)
 
 -- the scratch rows that a tree has left, from the first on
 module _ (n : Node) (old : List ℤ) (long : length old ≡ scratchLength) where
-  stands-all : Stands (written 0 (sizedOf n) old) 0 (sizedOf n) (drop (0 + length (scratchOf (sizedOf n))) old)
-  unfolding Stands written putAt
-  stands-all = rw long
-
   module _ (d : Description) (shaped : Shaped d n) (few : length (sizedOf n) ≤ mostRows) where
     pub sound-tree : SoundRows d (written 0 (sizedOf n) old) (length (sizedOf n))
     sound-tree =
@@ -264,7 +206,7 @@ module _ (n : Node) (old : List ℤ) (long : length old ≡ scratchLength) where
         }
       where
         row : (r : ℕ) → r < length (sizedOf n) → SoundRow (written 0 (sizedOf n) old) d (length (sizedOf n)) r
-        row r l = part-sound (written 0 (sizedOf n) old) d (length (sizedOf n)) n 0 _ shaped stands-all (omega arith) r (omega arith) (omega arith)
+        row r l = part-sound (written 0 (sizedOf n) old) d (length (sizedOf n)) n 0 _ shaped (stands-all n old long) (omega arith) r (omega arith) (omega arith)
 
     pub text-tree : RulesHold d → textAt d (written 0 (sizedOf n) old) (suc mostRows) 0 ≡ textOf d n
-    text-tree o = part-text (written 0 (sizedOf n) old) d o n 0 (suc mostRows) _ shaped stands-all (omega arith)
+    text-tree o = part-text (written 0 (sizedOf n) old) d o n 0 (suc mostRows) _ shaped (stands-all n old long) (omega arith)

@@ -1,10 +1,10 @@
 -- The same text, read off the scratch rows by their places: what the code computes.
-use Prim.Native.Nat.{ℕ, zero, suc, _+_, _-_, _*_, _≤_, _<_}
+use Prim.Native.Nat.{ℕ, zero, suc, _+_, _-_, _≤_, _<_}
 use mathlib.Core.Bool.{cond}
 use mathlib.Core.List.{List, []}
 use mathlib.Core.Path.{_≡_}
 use lib.Dec.{eqb}
-use lib.IntN.{ℤ, pos, natAbs}
+use lib.IntN.{ℤ, natAbs}
 use lib.ListN.{length, getD}
 use Rattle.format.specs.Numbers.{mostRows}
 use Rattle.format.specs.Description.{Description, noField, noConstructor}
@@ -12,29 +12,9 @@ use Rattle.format.specs.declared.Constructor.{Constructor}
 use Rattle.format.specs.declared.Piece.{Piece}
 use Rattle.fields.specs.Look.{lookOf}
 use Rattle.printing.specs.Numerals.{numberText}
-use Rattle.walking.specs.Scratch.{scratchNumbers, scratchLength}
-use Rattle.text.specs.Text.{baseOf, constructorText, nameText}
-
--- number j of row r
-abbrev pub cell : List ℤ → ℕ → ℕ → ℤ
-cell rows r j = getD rows (scratchNumbers * r + j) (pos 0)
-
-unfoldable pub kindAt : List ℤ → ℕ → ℕ
-kindAt rows r = natAbs (cell rows r 0)
-
-unfoldable pub numberAt : List ℤ → ℕ → ℕ
-numberAt rows r = natAbs (cell rows r 1)
-
-unfoldable pub lastAt : List ℤ → ℕ → ℤ
-lastAt rows r = cell rows r 3
-
-unfoldable pub sizeAt : List ℤ → ℕ → ℕ
-sizeAt rows r = natAbs (cell rows r 4)
-
--- the row behind the j parts that start at row r
-unfoldable pub skip : List ℤ → ℕ → ℕ → ℕ
-skip rows r zero = r
-skip rows r (suc j) = skip rows (r + sizeAt rows r) j
+use Rattle.walking.specs.Scratch.{scratchLength}
+use Rattle.scratch_rows.specs.Places.{kindAt, numberAt, lastAt, skip}
+use Rattle.text.specs.Text.{baseOf, computedText, constructorText, nameText}
 
 -- a piece of the constructor k can be shown: its bytes lie in the text, its operand is one of the constructor's
 pub record Showable (d : Description) (k : Constructor) (p : Piece) : Type 0 where
@@ -52,7 +32,7 @@ module _ (d : Description) (rows : List ℤ) where
       (constructorText d (numberAt rows r) (λ n. textAt depth (skip rows (r + 1) (n - 1))))
       (cond (eqb (kindAt rows r) 1)
       (numberText (baseOf (lookOf (getD (d .fields) (numberAt rows r) noField .look))) (lastAt rows r))
-      (nameText d (natAbs (lastAt rows r))))
+      (cond (eqb (kindAt rows r) 3) (computedText (lastAt rows r)) (nameText d (natAbs (lastAt rows r)))))
 
   -- that of operand n of the constructor at row r
   abbrev pub operandText : (r depth n : ℕ) → List ℕ
@@ -67,4 +47,5 @@ module _ (d : Description) (rows : List ℤ) where
         → j < getD (d .constructors) (numberAt rows r) noConstructor .operands .count
         → (r < skip rows (r + 1) j) × (skip rows (r + 1) j < used)
     pub fields : (r : ℕ) → r < used → kindAt rows r ≡ 1 → numberAt rows r < length (d .fields)
-    pub names : (r : ℕ) → r < used → (kindAt rows r ≡ 0 → ⊥) → (kindAt rows r ≡ 1 → ⊥) → natAbs (lastAt rows r) < length (d .names)
+    pub names : (r : ℕ) → r < used → (kindAt rows r ≡ 0 → ⊥) → (kindAt rows r ≡ 1 → ⊥) → (kindAt rows r ≡ 3 → ⊥)
+        → natAbs (lastAt rows r) < length (d .names)

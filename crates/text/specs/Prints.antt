@@ -11,7 +11,8 @@ use Rattle.printing.specs.Numerals.{numberText}
 use Rattle.printing.specs.declared.Printed.{Printed}
 use Rattle.setting.specs.Fixed.{Fixed, settingIn}
 use Rattle.text.specs.Text.{baseOf, letters, pieceText, constructorText, nameText}
-use Rattle.text.specs.Places.{kindAt, numberAt, textAt, operandText, SoundRows, Showable}
+use Rattle.scratch_rows.specs.Places.{kindAt, numberAt}
+use Rattle.text.specs.Places.{textAt, operandText, SoundRows, Showable}
 use Rattle.text.specs.Append.{Appends}
 
 -- the description that the numbers are fixed for

@@ -3,6 +3,7 @@ use Prim.Native.Nat.{ℕ, zero, suc, _+_, _-_}
 use mathlib.Core.Bool.{cond}
 use mathlib.Core.List.{List, [], _∷_, _++_}
 use lib.Dec.{eqb}
+use lib.IntN.{ℤ}
 use lib.ListN.{getD, take, drop}
 use Rattle.format.specs.Description.{Description, noField, noName, noConstructor, noPiece}
 use Rattle.format.specs.declared.Name.{Name}
@@ -12,12 +13,16 @@ use Rattle.fields.specs.Look.{lookOf}
 use Rattle.fields.specs.declared.Look.{Look}
 use Rattle.fields.specs.declared.Look.the-variants as look
 use Rattle.printing.specs.Numerals.{numberText}
-use Rattle.decoding_spec.specs.Tree.{Node, Nodes, built, numbered, named, none, more}
+use Rattle.decoding_spec.specs.Tree.{Node, Nodes, built, numbered, named, computed, none, more}
 
 -- the base in which a look shows a number
 abbrev pub baseOf : Look → ℕ
 baseOf (look.Number signed base) = base
 baseOf look.Name = 10
+
+-- a computed operand is "shown as signed hex"
+unfoldable pub computedText : ℤ → List ℕ
+computedText v = numberText 16 v
 
 module _ (d : Description) where
   -- so many bytes of the text section, from an offset on
@@ -47,6 +52,7 @@ module _ (d : Description) where
     textOf (built k s l f) = constructorText k (λ n. getD (textsOf f) (n - 1) [])
     textOf (numbered i s v) = numberText (baseOf (lookOf (getD (d .fields) i noField .look))) v
     textOf (named i s n) = nameText n
+    textOf (computed i s v) = computedText v
 
     pub textsOf : Nodes → List (List ℕ)
     textsOf none = []

@@ -5,28 +5,23 @@ use setting::FIXED;
 ghost use mathlib.Core.Logic.{_⊎_};
 ghost use mathlib.Core.Path.{_≡_};
 ghost use Prim.Native.Nat.{_+_, _<_, _≤_};
-ghost use lib.IntN.{pos, natAbs};
-ghost use lib.ListN.{length, getD};
+ghost use lib.ListN.{length};
 ghost use Rattle.format.specs.Numbers.{mostRows};
 ghost use Rattle.fields.specs.Look.{lookOf};
 ghost use Rattle.printing.specs.Numerals.{numberText};
 ghost use Rattle.setting.specs.Fixed.{Fixed};
 ghost use Rattle.walking.specs.Scratch.{scratchLength};
 ghost use Rattle.text.specs.Text.{baseOf};
-ghost use Rattle.text.specs.Places.{kindAt, skip, SoundRows};
+ghost use Rattle.scratch_rows.specs.Places.{kindAt, skip};
+ghost use Rattle.text.specs.Places.{SoundRows};
 ghost use Rattle.text.specs.Append.{Appends};
 ghost use Rattle.text.specs.Lines.{lineOf, lentAfter};
 ghost use Rattle.text.specs.Prints.{described, wholeText, Printable, ValueRow, PieceRow, LettersPrinted, NamePrinted, FieldPrinted, PartPrinted, PiecePrinted, ConstructorPrinted};
 
-const COLUMNS: usize = walking::SCRATCH_NUMBERS;
+const COLUMNS: usize = scratch_rows::COLUMNS;
 
-// A number of the rows that is no value: a kind, a record, a size.
-fn column(rows: &[i64], i: usize) -> usize
-    requires { ⌜ i < length (now rows) ⌝ }
-    ensures { λ r. ⌜ r ≡ natAbs (getD (now (rows .entry)) i (pos 0)) ⌝ }
-{
-    printing::magnitude(rows[i]) as usize
-}
+// "shown as signed hex"
+const COMPUTED_BASE: u8 = 16;
 
 // The row behind so many parts, the first of which starts at this row.
 fn row_behind(rows: &[i64], first: usize, parts: usize) -> usize
@@ -36,7 +31,7 @@ fn row_behind(rows: &[i64], first: usize, parts: usize) -> usize
     let mut row = first;
     let mut left = parts;
     while 0 < left {
-        row += column(rows, COLUMNS * row + 4);
+        row += scratch_rows::column(rows, COLUMNS * row + 4);
         left -= 1;
     }
     row
@@ -119,7 +114,7 @@ fn put_field(
     put_value(value, base, out, at)
 }
 
-// A field or a name, by its row.
+// A field, a computed operand or a name, by its row.
 fn print_value(
     desc: &[u8],
     fixed: &[usize; FIXED],
@@ -136,10 +131,13 @@ fn print_value(
 {
     let last = COLUMNS * r + 3;
     if kind == 1 {
-        let index = column(rows, COLUMNS * r + 1);
+        let index = scratch_rows::column(rows, COLUMNS * r + 1);
         return put_field(desc, fixed, index, rows[last], out, at);
     }
-    put_name(desc, fixed, column(rows, last), out, at)
+    if kind == 3 {
+        return put_value(rows[last], COMPUTED_BASE, out, at);
+    }
+    put_name(desc, fixed, scratch_rows::column(rows, last), out, at)
 }
 
 // A piece of the constructor at row r.
@@ -180,7 +178,7 @@ fn print_constructor(
     requires { ⌜ kindAt (now rows) r ≡ 0 ⌝ }
     ensures { λ p. ⌜ ConstructorPrinted (now (desc .entry)) (now (fixed .entry)) at (now (out .entry)) (now (out .exit)) p (now (rows .entry)) r ⌝ }
 {
-    let number = column(rows, COLUMNS * r + 1);
+    let number = scratch_rows::column(rows, COLUMNS * r + 1);
     let constructor = setting::constructor(desc, fixed, number);
     let first = constructor.pieces.first as usize;
     let count = constructor.pieces.count as usize;
@@ -214,7 +212,7 @@ fn print_part(
     requires { ⌜ Printable (now desc) (now fixed) (now rows) used r (now out) at ⌝ }
     ensures { λ p. ⌜ PartPrinted (now (desc .entry)) (now (fixed .entry)) at (now (out .entry)) (now (out .exit)) p (now (rows .entry)) r ⌝ }
 {
-    let kind = column(rows, COLUMNS * r);
+    let kind = scratch_rows::column(rows, COLUMNS * r);
     if kind == 0 {
         return print_constructor(desc, fixed, rows, used, r, out, at);
     }

@@ -78,7 +78,7 @@ fn targets_past_the_ends() {
     let jump = |address, words| shown(&d, address, &[words]);
     assert_eq!(jump(0, 0xc000), "rjmp .+0x0 ; 0x2");
     assert_eq!(jump(0, 0xcffe), "rjmp .-0x4 ; 0xfffffffe");
-    assert_eq!(jump(0x10, 0xf201), "brcs .-128 ; 0xffffff92");
+    assert_eq!(jump(0x10, 0xf201), "breq .-128 ; 0xffffff92");
     assert_eq!(jump(0xffff_fff8, 0xd7ff), "rcall .+0xffe ; 0xff8");
     assert_eq!(jump(0xffff_fffe, 0xc000), "rjmp .+0x0 ; 0x0");
 }

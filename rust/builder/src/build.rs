@@ -208,7 +208,7 @@ fn all_operands(introduced: &[Operand], parts: &[Part]) -> Vec<Operand> {
         Part::Operand(name) => Some(name.as_str()),
     });
     for name in shown.chain(introduced.iter().flat_map(Operand::fields)) {
-        if number_of(&all, name).is_none() {
+        if all.iter().all(|operand| operand.name != name) {
             all.push(Operand::new(name));
         }
     }

@@ -35,7 +35,7 @@ fn built(builder: &Builder, root: &str) -> Description {
 }
 
 fn text(d: &Description, context: u32, code: &[u8]) -> String {
-    String::from_utf8(decode_text(d, context, code).unwrap()).unwrap()
+    String::from_utf8(decode_text(d, context, 0, code).unwrap()).unwrap()
 }
 
 #[test]
@@ -132,7 +132,7 @@ fn operands_after_others_and_unseen() {
     let d = built(&set, "root");
     let code = [0x40, 0x05, 0x06, 0x07, 0x12, 0x34];
     assert_eq!(text(&d, 0, &code), "0x1234, 5");
-    let rows = decode(&d, 0, &code).unwrap();
+    let rows = decode(&d, 0, 0, &code).unwrap();
     let starts: Vec<i64> = rows.iter().map(|row| row[2]).collect();
     assert_eq!(starts, [0, 1, 1, 1, 4]);
     assert_eq!(text(&d, 0, &[0x40, 0x85, 0x06, 0x12, 0x34]), "0x1234, 133");
@@ -161,7 +161,7 @@ fn names_are_shared_and_may_be_holes() {
     assert_eq!(text(&d, 0, &[0x4a]), "r10 r10 ne");
     assert_eq!(text(&d, 0, &[0xc1]), "r9 r1 r1");
     let hole = reference::Refusal::Hole { place: 0 };
-    assert_eq!(decode(&d, 0, &[0x80]), Err(hole));
+    assert_eq!(decode(&d, 0, 0, &[0x80]), Err(hole));
 }
 
 #[test]

@@ -3,12 +3,15 @@
 
 use std::collections::HashMap;
 
-use builder::{Builder, Constructor, Field, Operand};
+use builder::{Builder, Constructor, Expression, Field, Operand};
 use generate::Rng;
 use reference::{check, Description};
 
-/// An operand as it was given: its field or table, anchor and offset.
+/// An operand as it was given: its field, table or steps, anchor and offset.
 type Given = (String, u8, u8);
+
+/// The kinds and values of an expression's steps.
+type Steps = Vec<(u8, i64)>;
 
 /// A field as it was given, and its names.
 type GivenField = (reference::Field, Vec<Option<String>>);
@@ -158,7 +161,65 @@ impl Making<'_> {
                 expected.pieces.push(format!("{{{}}}", position + 1));
             }
         }
+        self.compute(&mut operands, &mut expected.operands);
         (operands, shows)
+    }
+
+    /// Puts computed operands in the place of some, over the fields that are left.
+    fn compute(&mut self, operands: &mut [Operand], given: &mut [Given]) {
+        let (computed, left): (Vec<usize>, Vec<usize>) =
+            (0..operands.len()).partition(|_| self.rng.once_in(5));
+        let any = self.loose && self.rng.once_in(30);
+        let is_named = |position: &usize| any || given[*position].0.starts_with('f');
+        let named: Vec<usize> = left.into_iter().filter(is_named).collect();
+        for position in computed {
+            let (expression, steps) = self.expression(&named);
+            let operand = Operand::computed(&format!("o{position}"), expression);
+            operands[position] = operand.offset(self.number(0, 1) as u8);
+            given[position] = (format!("{steps:?}"), 0, 0);
+        }
+    }
+
+    /// An expression over operands at these positions, and its steps.
+    fn expression(&mut self, named: &[usize]) -> (Expression, Steps) {
+        let (mut made, mut steps) = self.term(named);
+        for _ in 0..self.number(7, 8) {
+            if self.rng.once_in(3) {
+                let bits = self.number(63, 64) as u8;
+                let kind = self.rng.byte_within(10..=11);
+                made = if kind == 10 {
+                    made << bits
+                } else {
+                    made >> bits
+                };
+                steps.push((kind, bits.into()));
+                continue;
+            }
+            let (mut left, mut right) = ((made, steps), self.term(named));
+            if self.rng.once_in(2) {
+                std::mem::swap(&mut left, &mut right);
+            }
+            let kind = self.rng.byte_within(4..=9);
+            made = joined(kind, left.0, right.0);
+            steps = [left.1, right.1, vec![(kind, 0)]].concat();
+        }
+        (made, steps)
+    }
+
+    fn term(&mut self, named: &[usize]) -> (Expression, Steps) {
+        match self.rng.below(4) {
+            0 if !named.is_empty() => {
+                let position = self.rng.pick(named);
+                let field = Expression::field(&format!("o{position}"));
+                (field, vec![(1, position as i64 + 1)])
+            }
+            1 => (Expression::address(), vec![(2, 0)]),
+            2 => (Expression::next(), vec![(3, 0)]),
+            _ => {
+                let value = self.rng.word() as i64 >> self.rng.below(64);
+                (Expression::from(value), vec![(0, value)])
+            }
+        }
     }
 
     fn operand(&mut self, table: usize, position: usize) -> Option<(Operand, Given)> {
@@ -183,6 +244,17 @@ impl Making<'_> {
         }
         let offset = self.number(15, 16) as u8;
         Some((operand.offset(offset), (of, anchor as u8, offset)))
+    }
+}
+
+fn joined(kind: u8, left: Expression, right: Expression) -> Expression {
+    match kind {
+        4 => left + right,
+        5 => left - right,
+        6 => left * right,
+        7 => left & right,
+        8 => left | right,
+        _ => left ^ right,
     }
 }
 
@@ -258,6 +330,7 @@ fn read_back(d: &Description, root: &str, expected: &[Expected]) -> Vec<Expected
         let operand = |o: &reference::Operand| {
             let of = match o.kind {
                 reference::Operand::FIELD => format!("f{}", o.index),
+                reference::Operand::COMPUTED => steps(&d.expressions[usize::from(o.index)]),
                 _ => tables[&o.index].clone(),
             };
             (of, o.anchor, o.offset)
@@ -277,6 +350,12 @@ fn read_back(d: &Description, root: &str, expected: &[Expected]) -> Vec<Expected
         };
     }
     found
+}
+
+fn steps(expression: &reference::Expression) -> String {
+    let steps = &expression.steps[..usize::from(expression.step_count)];
+    let steps: Steps = steps.iter().map(|step| (step.kind, step.value)).collect();
+    format!("{steps:?}")
 }
 
 /// The fields as they are read back; first names are the builder's choice.

@@ -8,6 +8,7 @@ mod c {
             description: *const u8,
             description_len: usize,
             context: u32,
+            address: u32,
             code: *const u8,
             code_len: usize,
             rows: *mut i64,
@@ -17,11 +18,18 @@ mod c {
     }
 }
 
-/// Decodes the instruction at the code's start: 0 with the number of rows
-/// written from the first lent number on, four numbers each, or a refusal: 1
-/// to 9. A refusal leaves the lent numbers as they were, and so does 0 those
-/// behind its rows.
-pub fn decode(description: &[u8], context: u32, code: &[u8], rows: &mut [i64]) -> Answer {
+/// Decodes the instruction at the code's start, which has this address: 0 with
+/// the number of rows written from the first lent number on, four numbers each,
+/// or a refusal: 1 to 9 or 13. A refusal leaves the lent numbers as they were,
+/// and so does 0 those behind its rows.
+pub fn decode(
+    description: &[u8],
+    context: u32,
+    address: u32,
+    code: &[u8],
+    rows: &mut [i64],
+) -> Answer {
+    let call = c::dookerand_decode;
     // SAFETY: the call writes numbers of `rows` and the four values alone.
-    unsafe { lend(c::dookerand_decode, description, context, code, rows) }
+    unsafe { lend(call, description, context, address, code, rows) }
 }

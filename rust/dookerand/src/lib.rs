@@ -54,6 +54,7 @@ type Decoding<T> = unsafe extern "C" fn(
     description: *const u8,
     description_len: usize,
     context: u32,
+    address: u32,
     code: *const u8,
     code_len: usize,
     lent: *mut T,
@@ -71,6 +72,7 @@ unsafe fn lend<T>(
     call: Decoding<T>,
     description: &[u8],
     context: u32,
+    address: u32,
     code: &[u8],
     lent: &mut [T],
 ) -> Answer {
@@ -82,6 +84,7 @@ unsafe fn lend<T>(
                 description.as_ptr(),
                 description.len(),
                 context,
+                address,
                 code.as_ptr(),
                 code.len(),
                 lent.as_mut_ptr(),

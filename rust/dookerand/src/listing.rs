@@ -8,6 +8,7 @@ mod c {
             description: *const u8,
             description_len: usize,
             context: u32,
+            address: u32,
             code: *const u8,
             code_len: usize,
             from: u64,
@@ -18,9 +19,9 @@ mod c {
     }
 }
 
-/// Bytes that always suffice for a line: a place, a colon and a blank, the
-/// longest text, a line feed.
-pub const LINE: usize = 8 + 2 + 256 + 1;
+/// Bytes that always suffice for a line: an address, a colon and a blank, the
+/// longest text, a line feed. Most addresses have eight digits, but none wraps.
+pub const LINE: usize = 16 + 2 + 256 + 1;
 
 /// What [`list`] did.
 #[derive(Clone, Copy, Debug, PartialEq, Eq)]
@@ -59,12 +60,19 @@ impl From<Answer> for Listing {
     }
 }
 
-/// Lists the code from a place on, a line for each instruction and for each
-/// byte that is none, as many whole lines as fit into the lent bytes. Those
-/// behind the lines stay as they were, and so do all if the description is
-/// malformed. [`LINE`] bytes are enough to get on.
-pub fn list(description: &[u8], context: u32, code: &[u8], from: u64, text: &mut [u8]) -> Listing {
-    list_answer(description, context, code, from, text).into()
+/// Lists the code, whose first byte has this address, from a place on, a line
+/// for each instruction and for each byte that is none, as many whole lines as
+/// fit into the lent bytes. Those behind the lines stay as they were, and so do
+/// all if the description is malformed. [`LINE`] bytes are enough to get on.
+pub fn list(
+    description: &[u8],
+    context: u32,
+    address: u32,
+    code: &[u8],
+    from: u64,
+    text: &mut [u8],
+) -> Listing {
+    list_answer(description, context, address, code, from, text).into()
 }
 
 /// The same with its numbers: 0 with the bytes and lines written, the next
@@ -72,6 +80,7 @@ pub fn list(description: &[u8], context: u32, code: &[u8], from: u64, text: &mut
 pub fn list_answer(
     description: &[u8],
     context: u32,
+    address: u32,
     code: &[u8],
     from: u64,
     text: &mut [u8],
@@ -85,6 +94,7 @@ pub fn list_answer(
                 description.as_ptr(),
                 description.len(),
                 context,
+                address,
                 code.as_ptr(),
                 code.len(),
                 from,

@@ -8,6 +8,7 @@ mod c {
             description: *const u8,
             description_len: usize,
             context: u32,
+            address: u32,
             code: *const u8,
             code_len: usize,
             rows: *mut i64,
@@ -17,12 +18,19 @@ mod c {
     }
 }
 
-/// Sweeps the code from its first byte on: 0 with the end (0 used, 1 full, 2
-/// short), the number of rows written from the first lent number on and the
-/// next byte; or the refusal 1. A row is four numbers: start, length, answer
-/// and root constructor. Whatever the end, lent numbers behind the rows stay as
-/// they were.
-pub fn sweep(description: &[u8], context: u32, code: &[u8], rows: &mut [i64]) -> Answer {
+/// Sweeps the code from its first byte on, which has this address: 0 with the
+/// end (0 used, 1 full, 2 short), the number of rows written from the first lent
+/// number on and the next byte; or the refusal 1. A row is four numbers: start,
+/// length, answer and root constructor. Whatever the end, lent numbers behind
+/// the rows stay as they were.
+pub fn sweep(
+    description: &[u8],
+    context: u32,
+    address: u32,
+    code: &[u8],
+    rows: &mut [i64],
+) -> Answer {
+    let call = c::dookerand_sweep;
     // SAFETY: the call writes numbers of `rows` and the four values alone.
-    unsafe { lend(c::dookerand_sweep, description, context, code, rows) }
+    unsafe { lend(call, description, context, address, code, rows) }
 }

@@ -34,7 +34,7 @@ fn cut_or_longer() {
     let mut s = s();
     assert_eq!(check(&s[..215]), malformed(6, 65_535));
     s.push(b' ');
-    assert_eq!(check(&s), malformed(6, 65_535));
+    assert_eq!(check(&s), malformed(7, 65_535));
     assert_eq!(check(&[]), malformed(1, 65_535));
 }
 

@@ -27,7 +27,7 @@ fn untouched() -> [i64; 20] {
 /// Decodes with the first so many numbers lent. All of them come back.
 fn decoded(description: &[u8], code: &[u8], lent: usize) -> (Answer, [i64; 20]) {
     let mut rows = untouched();
-    let answer = decode(description, 0, code, &mut rows[..lent]);
+    let answer = decode(description, 0, 0, code, &mut rows[..lent]);
     (answer, rows)
 }
 
@@ -82,7 +82,7 @@ fn malformed() {
     longer.push(b' ');
     for code in [&[][..], &[0x13], &[0x30]] {
         refuses(&s()[..215], code, answer(1, [6, 65_535, 0, 0]));
-        refuses(&longer, code, answer(1, [6, 65_535, 0, 0]));
+        refuses(&longer, code, answer(1, [7, 65_535, 0, 0]));
         refuses(&[], code, answer(1, [1, 65_535, 0, 0]));
     }
 }

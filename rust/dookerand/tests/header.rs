@@ -1,14 +1,17 @@
 //! The header for C: a program that calls each of its functions is compiled
-//! with it, linked with the library, run on description S, and has the answers
-//! that the wrapper has.
+//! with it, linked with the library, run on description S and on a branch with
+//! its target, and has the answers that the wrapper has.
 
 use std::fmt::Write;
 use std::path::{Path, PathBuf};
 use std::process::Command;
 
 use dookerand::Answer;
+use generate::bytes;
+use generate::example::target;
 
 const CODE: [u8; 2] = [0x25, 0xfe];
+const ADDRESS: u32 = 0x1000;
 /// One leaf, constructor 0.
 const TREE: [u8; 6] = [1, 0, 0, 0, 0, 0];
 
@@ -18,10 +21,10 @@ fn root() -> PathBuf {
 
 /// The constants, as docs/ANSWERS.md has them.
 const CONSTANTS: &str = "\
-answers 0 1 2 3 4 5 6 7 8 9 10 11 12
-rows 0 1 2
+answers 0 1 2 3 4 5 6 7 8 9 10 11 12 13
+rows 0 1 2 3
 ends 0 1 2
-room 4 4 128 256 267
+room 4 4 128 256 275
 none 65535
 ";
 
@@ -43,9 +46,17 @@ fn every_function_in_c() {
         .arg(env!("DOOKERAND_LIBRARY"))
         .arg("-o")
         .arg(&program));
-    let description = root().join("examples/s.description");
-    let printed = run(Command::new(program).arg(&description));
-    assert_eq!(printed, expected(&std::fs::read(description).unwrap()));
+    let s = root().join("examples/s.description");
+    let branch = Path::new(env!("CARGO_TARGET_TMPDIR")).join("branch.description");
+    std::fs::write(&branch, bytes(&target())).unwrap();
+    let printed = run(Command::new(program).args([&s, &branch]));
+    let mut expected = CONSTANTS.to_string();
+    answers(&mut expected, &std::fs::read(s).unwrap());
+    answers(&mut expected, &bytes(&target()));
+    assert_eq!(printed, expected);
+    assert!(printed.contains("add r5, -0x2....\n"), "{printed}");
+    assert!(printed.contains("00001000: add r5, -0x2\n.\n"), "{printed}");
+    assert!(printed.contains("00001000: 0xffe\n"), "{printed}");
 }
 
 #[test]
@@ -55,36 +66,27 @@ fn the_header_is_c_plus_plus_too() {
         .arg(root().join("include/dookerand.h")));
 }
 
-fn expected(description: &[u8]) -> String {
-    let mut out = CONSTANTS.to_string();
+/// What each function answers.
+fn answers(out: &mut String, description: &[u8]) {
     let mut rows = [0; 20];
     let mut text = [b'.'; 16];
-    line(&mut out, "check", dookerand::check(description));
-    line(&mut out, "ask", dookerand::ask(description, 1, 0, &CODE));
-    line(&mut out, "clash", dookerand::clash(description, 1));
-    line(&mut out, "tree", dookerand::tree(description, 0, &TREE));
-    let decoded = dookerand::decode(description, 0, &CODE, &mut rows);
-    line(&mut out, "decode", decoded);
-    numbers(&mut out, &rows);
-    line(
-        &mut out,
-        "text",
-        dookerand::text(description, 0, &CODE, &mut text),
-    );
-    writeln!(out, "{}", std::str::from_utf8(&text).unwrap()).unwrap();
-    line(
-        &mut out,
-        "sweep",
-        dookerand::sweep(description, 0, &CODE, &mut rows),
-    );
-    numbers(&mut out, &rows);
     let mut lines = [b'.'; 24];
-    let listed = dookerand::list_answer(description, 0, &CODE, 0, &mut lines);
-    line(&mut out, "list", listed);
+    line(out, "check", dookerand::check(description));
+    line(out, "ask", dookerand::ask(description, 1, 0, &CODE));
+    line(out, "clash", dookerand::clash(description, 1));
+    line(out, "tree", dookerand::tree(description, 0, &TREE));
+    let decoded = dookerand::decode(description, 0, ADDRESS, &CODE, &mut rows);
+    line(out, "decode", decoded);
+    numbers(out, &rows);
+    let shown = dookerand::text(description, 0, ADDRESS, &CODE, &mut text);
+    line(out, "text", shown);
+    writeln!(out, "{}", std::str::from_utf8(&text).unwrap()).unwrap();
+    let swept = dookerand::sweep(description, 0, ADDRESS, &CODE, &mut rows);
+    line(out, "sweep", swept);
+    numbers(out, &rows);
+    let listed = dookerand::list_answer(description, 0, ADDRESS, &CODE, 0, &mut lines);
+    line(out, "list", listed);
     writeln!(out, "{}", std::str::from_utf8(&lines).unwrap()).unwrap();
-    assert!(out.contains("add r5, -0x2....\n"), "{out}");
-    assert!(out.contains("00000000: add r5, -0x2\n.\n"), "{out}");
-    out
 }
 
 fn line(out: &mut String, request: &str, answer: Answer) {

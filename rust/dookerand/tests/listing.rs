@@ -28,7 +28,7 @@ fn gives(
     (lines, next, full): (&[&str], u64, bool),
 ) {
     let mut text = untouched();
-    let found = list(description, context, code, from, &mut text[..lent]);
+    let found = list(description, context, 0, code, from, &mut text[..lent]);
     let joined = lines.concat();
     let expected = Listing::Listed {
         bytes: joined.len(),
@@ -91,10 +91,11 @@ fn long_and_empty_texts() {
         bytes(&d)
     };
     let longest = format!("00000000: {}\n", "x".repeat(256));
-    assert_eq!(longest.len(), LINE);
+    // Eight digits more would fit.
+    assert_eq!(longest.len() + 8, LINE);
     let whole = (&[&longest[..]][..], 1, false);
-    gives((&shows(&[255, 1]), 0, &[0x1f]), 0, LINE, whole);
-    gives((&shows(&[255, 1]), 0, &[0x1f]), 0, LINE - 1, (&[], 0, true));
+    gives((&shows(&[255, 1]), 0, &[0x1f]), 0, LINE - 8, whole);
+    gives((&shows(&[255, 1]), 0, &[0x1f]), 0, LINE - 9, (&[], 0, true));
     let long = (&["00000000: .long\n"][..], 1, false);
     gives((&shows(&[255, 2]), 0, &[0x1f]), 0, 16, long);
     let empty = (&["00000000: \n"][..], 1, false);
@@ -131,7 +132,7 @@ fn malformed() {
                 section: 6,
                 record: 65_535,
             };
-            let found = list(&s()[..215], 0, &CODE, from, &mut text[..lent]);
+            let found = list(&s()[..215], 0, 0, &CODE, from, &mut text[..lent]);
             assert_eq!((found, text), (fault, untouched()));
         }
     }
@@ -139,7 +140,7 @@ fn malformed() {
 
 #[test]
 fn numbers() {
-    let numbers = |lent: usize| list_answer(&s(), 0, &CODE, 0, &mut vec![0; lent]);
+    let numbers = |lent: usize| list_answer(&s(), 0, 0, &CODE, 0, &mut vec![0; lent]);
     let answer = |values| Answer { number: 0, values };
     assert_eq!(numbers(70), answer([70, 4, 4, 0]));
     assert_eq!(numbers(69), answer([53, 3, 3, 1]));

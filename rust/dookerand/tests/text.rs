@@ -33,7 +33,7 @@ fn untouched() -> [u8; MOST] {
 /// Decodes with the first so many bytes lent. All of them come back.
 fn decoded(description: &[u8], code: &[u8], lent: usize) -> (Answer, [u8; MOST]) {
     let mut bytes = untouched();
-    let answer = text(description, 0, code, &mut bytes[..lent]);
+    let answer = text(description, 0, 0, code, &mut bytes[..lent]);
     (answer, bytes)
 }
 
@@ -84,7 +84,7 @@ fn malformed() {
     longer.push(b' ');
     for code in [&[][..], &[0x13], &[0x30]] {
         refuses(&s()[..215], code, answer(1, [6, 65_535, 0, 0]));
-        refuses(&longer, code, answer(1, [6, 65_535, 0, 0]));
+        refuses(&longer, code, answer(1, [7, 65_535, 0, 0]));
         refuses(&[], code, answer(1, [1, 65_535, 0, 0]));
     }
 }
@@ -218,8 +218,8 @@ fn the_context() {
     d.constructors[HALT].pattern.context_value = 1 << 31;
     let mut lent = [0; 7];
     let done = |length| answer(0, [length, 0, 0, 0]);
-    assert_eq!(text(&bytes(&d), 1 << 31, &[0x1f], &mut lent), done(4));
+    assert_eq!(text(&bytes(&d), 1 << 31, 0, &[0x1f], &mut lent), done(4));
     assert_eq!(&lent, b"halt\0\0\0");
-    assert_eq!(text(&bytes(&d), 1, &[0x1f], &mut lent), done(7));
+    assert_eq!(text(&bytes(&d), 1, 0, &[0x1f], &mut lent), done(7));
     assert_eq!(&lent, b"inc r15");
 }

@@ -1,11 +1,12 @@
 //! Changes that use a rule to its limit and leave a description well formed.
 
-use reference::{Description, Field, Operand, Pattern};
+use reference::{Description, Expression, Field, Operand, Pattern, Step};
 
-use crate::example::{field, literal, name, operand, shown};
+use crate::example::{expression, field, literal, name, operand, shown, step};
+use crate::expressions::some_expression;
 use crate::rules::{
-    give_operands, give_pieces, good_operands, lengthen_text, lower_tables, some_constructor,
-    some_field,
+    add_expression, give_operands, give_pieces, good_operands, lengthen_text, lower_tables,
+    some_constructor, some_field,
 };
 use crate::write::LIMITS;
 use crate::Rng;
@@ -33,6 +34,12 @@ pub const CHANGES: &[Change] = &[
     ("text piece up to the text's end", literal_to_end),
     ("text bytes 32 and 126", text_ends),
     ("equal constructors", equal_constructors),
+    ("16 steps", sixteen_steps),
+    ("constants at the ends", end_constants),
+    ("shifts by 0 and by 63", end_shifts),
+    ("expressions of later and of context fields", later_fields),
+    ("unused expressions of any operands", unused_expressions),
+    ("one expression, two users", shared_expression),
 ];
 
 fn add<T>(records: &mut Vec<T>, record: T, limit: usize) -> Option<()> {
@@ -213,4 +220,73 @@ fn equal_constructors(d: &mut Description, rng: &mut Rng) -> Option<()> {
     let record = some_constructor(d, rng);
     d.constructors.insert(record, d.constructors[record]);
     (d.constructors.len() <= LIMITS[2]).then_some(())
+}
+
+/// Gives some constructor computed operands alone, with these expressions.
+fn give_computed(d: &mut Description, rng: &mut Rng, expressions: &[Expression]) -> Option<()> {
+    let user = some_constructor(d, rng);
+    let mut operands = Vec::new();
+    for &expression in expressions {
+        let index = add_expression(d, expression)?;
+        operands.push(operand(Operand::COMPUTED, index, 0, 0));
+    }
+    give_operands(d, user, &operands)
+}
+
+fn sixteen_steps(d: &mut Description, rng: &mut Rng) -> Option<()> {
+    // Eight constants, then seven operators and a shift.
+    let mut deep = [Step::default(); 16];
+    deep[8..15].fill(step(Step::MINUS, 0));
+    deep[15] = step(Step::SHIFT_RIGHT, 1);
+    let any = some_expression(rng, &[], 16);
+    give_computed(d, rng, &[expression(&deep), any])
+}
+
+fn end_constants(d: &mut Description, rng: &mut Rng) -> Option<()> {
+    let ends = [i64::MIN, i64::MAX, -1].map(|end| expression(&[step(Step::CONSTANT, end)]));
+    give_computed(d, rng, &ends)
+}
+
+fn end_shifts(d: &mut Description, rng: &mut Rng) -> Option<()> {
+    let mut steps = vec![step(Step::ADDRESS, 0)];
+    for kind in [Step::SHIFT_LEFT, Step::SHIFT_RIGHT] {
+        steps.extend([step(kind, 0), step(kind, 63)]);
+    }
+    give_computed(d, rng, &[expression(&steps)])
+}
+
+fn later_fields(d: &mut Description, rng: &mut Rng) -> Option<()> {
+    let user = some_constructor(d, rng);
+    let (field, context) = (some_field(d, rng, false)?, some_field(d, rng, true)?);
+    let both = [
+        step(Step::OPERAND, 8),
+        step(Step::OPERAND, 2),
+        step(Step::AND, 0),
+    ];
+    let index = add_expression(d, expression(&both))?;
+    let mut operands = [operand(Operand::COMPUTED, index, 0, 0); 8];
+    operands[1] = operand(Operand::FIELD, context, 0, 0);
+    operands[7] = operand(Operand::FIELD, field, 7, 0);
+    give_operands(d, user, &operands)
+}
+
+fn unused_expressions(d: &mut Description, _: &mut Rng) -> Option<()> {
+    for number in [0, 9, 255] {
+        let index = add_expression(d, expression(&[step(Step::OPERAND, number)]))?;
+        let unused = operand(Operand::COMPUTED, index, 0, 0);
+        add(&mut d.operands, unused, LIMITS[3])?;
+    }
+    Some(())
+}
+
+/// At another position in the second.
+fn shared_expression(d: &mut Description, rng: &mut Rng) -> Option<()> {
+    let index = add_expression(d, expression(&[step(Step::OPERAND, 2)]))?;
+    let field = operand(Operand::FIELD, some_field(d, rng, false)?, 0, 0);
+    let computed = operand(Operand::COMPUTED, index, 0, 0);
+    for operands in [&[computed, field][..], &[field, field, computed]] {
+        let user = some_constructor(d, rng);
+        give_operands(d, user, operands)?;
+    }
+    Some(())
 }

@@ -31,29 +31,27 @@ pub fn count_faults(d: &Description, rng: &mut Rng) -> Vec<(Vec<u8>, Fault)> {
             cases.push((with_count(&whole, start, 0), fault));
         }
     }
-    let longer = left_over(rng, sections(d) == SECTIONS);
     let fault = whole_section(SECTIONS - 1);
-    cases.extend(longer.map(|more| ([&whole[..], &more].concat(), fault)));
+    let more = left_over(rng).map(|more| ([&whole[..], &more].concat(), fault));
+    cases.extend(more);
     cases
 }
 
-/// Bytes that may not follow: behind the last section any, and where that is
-/// absent such as are not just its count and records.
-fn left_over(rng: &mut Rng, whole: bool) -> [Vec<u8>; 5] {
-    let size = RECORD_SIZES[SECTIONS - 1];
+/// Bytes that may not follow: not behind the last section, and where that is
+/// absent they are not just its count and records.
+fn left_over(rng: &mut Rng) -> [Vec<u8>; 5] {
+    let (size, limit) = (RECORD_SIZES[SECTIONS - 1], LIMITS[SECTIONS - 1]);
     let any = (0..rng.within(1..=300)).map(|_| rng.byte_within(32..=126));
-    let mut past = LIMITS[SECTIONS - 1] as u16 + 1;
-    let any = any.collect();
-    let records = |count: u16, bytes: usize| [&count.to_le_bytes()[..], &vec![0; bytes]].concat();
-    if whole {
-        past = 0;
-    }
+    let counted = |count: usize, bytes: usize| {
+        let count = (count as u16).to_le_bytes();
+        [&count[..], &vec![0; bytes]].concat()
+    };
     [
-        any,
+        any.collect(),
         vec![0],
-        records(0, 1),
-        records(1, size - 1),
-        records(past, usize::from(past) * size),
+        counted(0, 1),
+        counted(1, size - 1),
+        counted(limit + 1, (limit + 1) * size),
     ]
 }
 

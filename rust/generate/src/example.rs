@@ -1,5 +1,5 @@
-//! Fixed descriptions: S of the rules, with a tree of its table 1, and one that
-//! uses every feature.
+//! Fixed descriptions: S of the rules, with a tree of its table 1, a branch with
+//! its target, and one that uses every other feature.
 
 use reference::{
     Constructor, Description, Expression, Field, Name, Operand, Pattern, Piece, Step, STEP_LIMIT,
@@ -128,6 +128,33 @@ pub fn description_s() -> Description {
         text: b"inc radd r, halt".to_vec(),
         expressions: vec![],
     }
+}
+
+/// One instruction of two bytes: 25 and a signed displacement of words. It shows
+/// its second operand, which is computed by these steps.
+pub fn branch(steps: &[Step]) -> Description {
+    Description {
+        fields: vec![field(0, 1, 0, 0, 7, Field::SIGNED_HEX)],
+        constructors: vec![constructor(0, 2, (0xff, 0x25), (0, 2), (0, 1))],
+        operands: vec![
+            operand(Operand::FIELD, 0, 0, 1),
+            operand(Operand::COMPUTED, 0, 0, 0),
+        ],
+        pieces: vec![shown(2)],
+        expressions: vec![expression(steps)],
+        ..Description::default()
+    }
+}
+
+/// A branch that shows its target: the address after it, plus twice the
+/// displacement.
+pub fn target() -> Description {
+    branch(&[
+        step(Step::ADDRESS_AFTER, 0),
+        step(Step::OPERAND, 1),
+        step(Step::SHIFT_LEFT, 1),
+        step(Step::PLUS, 0),
+    ])
 }
 
 /// The bytes of a tree, from kind, bit and place of each node.

@@ -57,7 +57,9 @@ impl Growing<'_> {
         match self.rng.below(8) {
             _ if self.mild => self.rng.within(0..=20) as i64 - 10,
             0 => self.rng.word() as i64,
-            1..=2 => self.rng.pick(&[i64::MIN, i64::MIN + 1, i64::MAX, i64::MAX - 1]),
+            1..=2 => self
+                .rng
+                .pick(&[i64::MIN, i64::MIN + 1, i64::MAX, i64::MAX - 1]),
             _ => near_power(1 << self.rng.below(63), self.rng.below(6)),
         }
     }

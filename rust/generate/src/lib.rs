@@ -30,10 +30,10 @@ pub use allowed::{Change, CHANGES};
 pub use code::{address, code, context, input, Input};
 pub use counts::count_faults;
 pub use decodable::{decodable, Leaning};
+pub use expressions::{compute_some, some_expression};
 pub use instruction_set::{
     instruction_set, instruction_starts, instruction_stream, nested_instruction_set,
 };
-pub use expressions::{compute_some, some_expression};
 pub use limits::{limits, Case};
 pub use longest::{longest, longest_of_all};
 pub use mutate::{change_bytes, change_counts, change_records, insert_or_remove, random_records};

@@ -1,17 +1,38 @@
-//! The longest description: every section full.
+//! The longest descriptions: every section full.
 
-use reference::{Constructor, Description, Field, Name, Operand, Pattern, Piece};
+use reference::{Constructor, Description, Field, Name, Operand, Pattern, Piece, STEP_LIMIT};
 
 use crate::example::{literal, operand, shown};
+use crate::expressions::{common_fields, some_expression};
 use crate::well_formed;
 use crate::write::LIMITS;
 use crate::Rng;
 
-/// Every section full, 8 operands and 16 pieces for each constructor (each
+/// Every section full: [`longest`], with a computed operand of 16 steps in the
+/// place of a field for every two constructors.
+pub fn longest_of_all() -> Description {
+    let rng = &mut Rng::new(91_406);
+    let mut d = longest();
+    for expression in 0..LIMITS[6] {
+        let operands = 8 * expression..8 * expression + 8;
+        let field = operands
+            .clone()
+            .rfind(|&i| d.operands[i].kind == Operand::FIELD);
+        if let Some(field) = field {
+            d.operands[field] = operand(Operand::COMPUTED, expression as u8, 0, 0);
+        }
+        let fields = common_fields(&d, operands.start);
+        d.expressions
+            .push(some_expression(rng, &fields, STEP_LIMIT));
+    }
+    d
+}
+
+/// Every section full but the last, which is absent; 8 operands and 16 pieces for each constructor (each
 /// record has two users), and tables in all numbers from 0 to 63.
 pub fn longest() -> Description {
     let rng = &mut Rng::new(54_284);
-    let [fields, names, constructors, operands, pieces, text] = LIMITS;
+    let [fields, names, constructors, operands, pieces, text, _] = LIMITS;
     let mut d = Description {
         text: (0..text).map(|_| rng.byte_within(32..=126)).collect(),
         ..Description::default()

@@ -1,8 +1,8 @@
 //! Instructions whose text has an exact length.
 
-use reference::{Constructor, Description, Field, Operand, Pattern, Piece};
+use reference::{Constructor, Description, Field, Operand, Pattern, Piece, Step};
 
-use crate::example::{field, literal, name, operand, shown};
+use crate::example::{expression, field, literal, name, operand, shown, step};
 use crate::row_counts::parts;
 use crate::write::bytes;
 use crate::Rng;
@@ -16,6 +16,14 @@ const LITERAL: usize = 255;
 const FIRST: u8 = 0x9c;
 const NUMBERS: [&str; 4] = ["156", "-100", "0x9c", "-0x64"];
 
+/// Computed values, and what is shown of them.
+const COMPUTED: [(i64, &str); 4] = [
+    (0, "0x0"),
+    (-0x64, "-0x64"),
+    (i64::MAX, "0x7fffffffffffffff"),
+    (i64::MIN, "-0x8000000000000000"),
+];
+
 /// How many fields are shown by names.
 const NAMED: usize = 4;
 
@@ -24,7 +32,8 @@ pub const LONGEST_TEXT: usize = most_shown(ROWS);
 
 /// A description that decodes planted code to a text of so many bytes (up to
 /// the longest), unless those are too many: each table has one constructor,
-/// which shows literals, numbers, names and constructors in any order.
+/// which shows literals, numbers, names and constructors in any order, in half
+/// of them computed numbers too.
 pub fn with_text(rng: &mut Rng, length: usize) -> Description {
     let text = rng.within(LITERAL..=2 * LITERAL);
     let mut d = Description {
@@ -38,6 +47,13 @@ pub fn with_text(rng: &mut Rng, length: usize) -> Description {
     }
     for _ in 0..NAMED {
         lengths.push(add_names(rng, &mut d));
+    }
+    if rng.once_in(2) {
+        for (value, shown) in COMPUTED {
+            let constant = expression(&[step(Step::CONSTANT, value)]);
+            d.expressions.push(constant);
+            lengths.push(shown.len());
+        }
     }
     let fewest = (1..ROWS)
         .find(|&count| most_shown(count) >= length)
@@ -90,7 +106,7 @@ fn add_names(rng: &mut Rng, d: &mut Description) -> usize {
 struct Tower<'a> {
     rng: &'a mut Rng,
     d: Description,
-    /// How many bytes each field shows.
+    /// How many bytes each field shows, and then each expression.
     lengths: Vec<usize>,
     /// The most constructors directly inside another.
     widest: usize,
@@ -117,7 +133,7 @@ impl Tower<'_> {
                 length_left -= length;
                 pieces_left -= 1;
             }
-            operands.push((operand(Operand::FIELD, index as u8, 0, 0), visible));
+            operands.push((self.number(index), visible));
         }
         for part in inside {
             most_inside -= most_shown(part);
@@ -133,6 +149,14 @@ impl Tower<'_> {
         pieces.extend(visible.map(|(n, _)| shown(n)));
         self.rng.shuffle(&mut pieces);
         self.constructor(operands.into_iter().map(|(operand, _)| operand), pieces)
+    }
+
+    /// The operand that shows one of the lengths.
+    fn number(&self, index: usize) -> Operand {
+        match index.checked_sub(self.d.fields.len()) {
+            None => operand(Operand::FIELD, index as u8, 0, 0),
+            Some(computed) => operand(Operand::COMPUTED, computed as u8, 0, 0),
+        }
     }
 
     fn takes_row(&mut self) -> bool {

@@ -9,12 +9,12 @@ use reference::{check, clash, decode, decode_text, sweep, Clash, Refusal, Row};
 const CODE: usize = 20;
 
 /// How often each answer's number comes up.
-fn answers(rng: &mut Rng, leaning: Leaning) -> [usize; 9] {
-    let mut answers = [0; 9];
+fn answers(rng: &mut Rng, leaning: Leaning) -> [usize; 14] {
+    let mut answers = [0; 14];
     for _ in 0..1000 {
         let d = decodable(rng, Size::SMALL, leaning);
         let (code, context) = planted(rng, &d, CODE);
-        let number = match decode(&d, context, &code) {
+        let number = match decode(&d, context, 0, &code) {
             Ok(_) => 0,
             Err(refusal) => refusal.number_and_values().0,
         };
@@ -50,7 +50,7 @@ fn exact_row_counts() {
         let count = 1 + i % 40;
         let d = with_rows(rng, count);
         let code: Vec<u8> = (0..16).map(|_| rng.byte()).collect();
-        match decode(&d, rng.word() as u32, &code) {
+        match decode(&d, rng.word() as u32, 0, &code) {
             Ok(rows) => {
                 assert_eq!(rows.len(), count);
                 most_constructors = most_constructors.max(constructors(&rows));
@@ -71,7 +71,7 @@ fn exact_text_lengths() {
         let length = i % 300;
         let d = with_text(rng, length);
         let (code, context) = planted(rng, &d, CODE);
-        match decode_text(&d, context, &code) {
+        match decode_text(&d, context, 0, &code) {
             Ok(text) => assert_eq!(text.len(), length),
             Err(refusal) => {
                 assert_eq!(refusal, Refusal::TextTooLong);
@@ -90,10 +90,10 @@ fn long_texts() {
     for length in [257, 4_080, 65_536, 65_792, 100_000, LONGEST_TEXT] {
         let d = with_text(rng, length);
         let (code, context) = planted(rng, &d, CODE);
-        let rows = decode(&d, context, &code).unwrap();
+        let rows = decode(&d, context, 0, &code).unwrap();
         most_constructors = most_constructors.max(constructors(&rows));
         let too_long = Err(Refusal::TextTooLong);
-        assert_eq!(decode_text(&d, context, &code), too_long);
+        assert_eq!(decode_text(&d, context, 0, &code), too_long);
     }
     assert_eq!(most_constructors, 32);
 }
@@ -117,7 +117,7 @@ fn planted_code_decodes() {
     let d = nested_instruction_set(200);
     for _ in 0..5000 {
         let (code, context) = planted(rng, &d, CODE);
-        assert!(decode(&d, context, &code).is_ok());
+        assert!(decode(&d, context, 0, &code).is_ok());
     }
 }
 
@@ -131,7 +131,7 @@ fn a_stream_of_instructions() {
         let mut end = 0;
         for start in starts {
             assert_eq!(start, end);
-            let rows = decode(&d, context, &code[start..]).unwrap();
+            let rows = decode(&d, context, 0, &code[start..]).unwrap();
             for row in rows.iter().filter(|row| row[0] == 0) {
                 taken[row[1] as usize] += 1;
             }
@@ -153,7 +153,7 @@ fn planted_streams() {
         let length = rng.within(0..=200);
         let (code, context) = planted_stream(rng, &d, length);
         assert_eq!(code.len(), length);
-        for row in sweep(&d, context, &code, length).rows {
+        for row in sweep(&d, context, 0, &code, length).rows {
             match row[2] {
                 0 => done += 1,
                 _ => gaps += 1,

@@ -1,7 +1,7 @@
 //! The fixed descriptions.
 
 use generate::example::{description_s, full_featured};
-use generate::{bytes, counts, longest, LIMITS};
+use generate::{bytes, counts, longest, longest_of_all, LIMITS};
 
 /// Description S as the rules write it down.
 const S: &str = "
@@ -44,15 +44,24 @@ fn the_example_file_is_s() {
 
 #[test]
 fn the_longest_is_full_and_well_formed() {
+    let all = longest_of_all();
+    assert_eq!(counts(&all), LIMITS);
+    assert_eq!(bytes(&all).len(), 91_406);
+    assert!(reference::check(&bytes(&all)).is_ok());
     let longest = longest();
-    assert_eq!(counts(&longest), LIMITS);
+    assert_eq!(counts(&longest)[..6], LIMITS[..6]);
     assert_eq!(bytes(&longest).len(), 54_284);
     assert!(reference::check(&bytes(&longest)).is_ok());
 }
 
 #[test]
 fn reading_undoes_writing() {
-    for d in [description_s(), full_featured(), longest()] {
+    for d in [
+        description_s(),
+        full_featured(),
+        longest(),
+        longest_of_all(),
+    ] {
         assert_eq!(reference::check(&bytes(&d)), Ok(d));
     }
 }

@@ -2,11 +2,18 @@
 //! there is none.
 
 use generate::example::{description_s, full_featured};
-use generate::{bytes, count_faults, limits, longest, rules, well_formed, Rng, Size, CHANGES};
+use generate::{
+    bytes, count_faults, limits, longest, longest_of_all, rules, well_formed, Rng, Size, CHANGES,
+};
 use reference::{check, Description};
 
 fn bases(rng: &mut Rng) -> Vec<Description> {
-    let mut bases = vec![description_s(), full_featured(), longest()];
+    let mut bases = vec![
+        description_s(),
+        full_featured(),
+        longest(),
+        longest_of_all(),
+    ];
     bases.extend((0..150).map(|_| well_formed(rng, Size::SMALL)));
     bases.extend((0..30).map(|_| well_formed(rng, Size::MIDDLE)));
     bases.extend((0..3).map(|_| well_formed(rng, Size::LARGE)));

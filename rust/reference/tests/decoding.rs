@@ -270,8 +270,8 @@ fn too_long_a_text_comes_before_too_little_room() {
 #[test]
 fn random_instructions() {
     let rng = &mut Rng::new(6);
-    let mut answers = [0; 9];
-    for _ in 0..3000 {
+    let mut answers = [0; 14];
+    for _ in 0..10_000 {
         let d = match rng.once_in(50) {
             true => full_featured(),
             false => well_formed(rng, Size::MIDDLE),
@@ -288,5 +288,5 @@ fn random_instructions() {
         answers[number as usize] += 1;
     }
     let met = answers.iter().filter(|&&count| count > 0).count();
-    assert_eq!(met, 8, "{answers:?}");
+    assert_eq!(met, 9, "{answers:?}");
 }

@@ -118,7 +118,10 @@ fn every_room() {
 fn every_place() {
     for from in 0..4 {
         let expected = listed(&LINES[from..].concat(), 4 - from, 4, false);
-        assert_eq!(list(&description_s(), 0, 0, &CODE, from as u64, 100), expected);
+        assert_eq!(
+            list(&description_s(), 0, 0, &CODE, from as u64, 100),
+            expected
+        );
     }
     for from in [4, 5, 1 << 32, u64::MAX] {
         for room in [0, 100] {

@@ -7,7 +7,7 @@ use Rattle.sweep.proofs.step_at.Tie as tie
 use Rattle.sweep.proofs.step_at.Reads as reads
 use Rattle.sweep.proofs.step_at.Lts as lts
 use Rattle.sweep.proofs.gap_of.Reads as gap-of-reads
-use Rattle.walking.proofs.step_at.Reads as step-at-reads
+use Rattle.instructions.proofs.step_at.Reads as step-at-reads
 
 step-at-requires : tie.Need-step-at-requires
 step-at-requires c κs = search needs
@@ -24,12 +24,12 @@ enum-known-walked-2 c = search needs
 returns : tie.Need-returns
 returns c =
     let walk = c .before .before .before .before .step-at in
-    (c .gap-of .ensures ∙ gap-step _ _ _ _ _ _ (walk .ensures .0) _ (c .before .before .walked .given .1), walk .ensures .1)
+    (c .gap-of .ensures ∙ gap-step _ _ _ _ _ _ _ (walk .ensures .0) _ (c .before .before .walked .given .1), walk .ensures .1)
 
 returns-2 : tie.Need-returns-2
 returns-2 c =
     let walk = c .before .before .before .step-at in
-    (row-step _ _ _ _ _ _ (walk .ensures .0) _ _ (c .before .walked2 .given .1), walk .ensures .1)
+    (row-step _ _ _ _ _ _ _ (walk .ensures .0) _ _ (c .before .walked2 .given .1), walk .ensures .1)
 
 pub step-at-spec : {M : Type 1} → statement M
 step-at-spec =

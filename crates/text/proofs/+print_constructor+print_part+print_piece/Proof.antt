@@ -1,8 +1,9 @@
 -- The printing functions that call each other meet their contracts. The measure falls by row: an operand stands behind its constructor.
 -- Assumes nothing.
-use Rattle.text.proofs.Parts.{kind-here, moved, PiecesWritten, no-piece, next-piece, full-piece, all-pieces, part-constructor, piece-letters, piece-operand}
+use Rattle.text.proofs.Parts.{moved, PiecesWritten, no-piece, next-piece, full-piece, all-pieces, part-constructor, piece-letters, piece-operand}
 use Rattle.text.proofs.Pieces.{showable, pieces-inside}
-use Rattle.text.specs.Places.{numberAt, skip}
+use Rattle.scratch_rows.proofs.Standing.{kind-here}
+use Rattle.scratch_rows.specs.Places.{numberAt, skip}
 use Rattle.text.specs.Text.{constructorText}
 use Rattle.format.specs.Description.{noConstructor, noPiece}
 use Rattle.setting.proofs.Laws.{obeyed-in}
@@ -28,7 +29,7 @@ use Rattle.text.proofs.print_piece.Kinds as print-piece-kinds
 use Rattle.text.proofs.+print_constructor+print_part+print_piece.Lts-print_piece as print-piece-lts
 use Rattle.setting.proofs.constructor.Reads as constructor-reads
 use Rattle.setting.proofs.piece.Reads as piece-reads
-use Rattle.text.proofs.column.Reads as column-reads
+use Rattle.scratch_rows.proofs.column.Reads as column-reads
 use Rattle.text.proofs.print_value.Reads as print-value-reads
 use Rattle.text.proofs.put_letters.Reads as put-letters-reads
 use Rattle.text.proofs.row_behind.Reads as row-behind-reads

@@ -2,7 +2,7 @@
 use Prim.Native.Nat.{_+_, _-_}
 use mathlib.Core.Path.{_≡_, refl, sym, _∙_}
 use native.Mathlib.Omega.{arith}
-use Rattle.text.specs.Places.{skip, sizeAt}
+use Rattle.scratch_rows.specs.Places.{skip, sizeAt}
 use Rattle.text.proofs.RowSteps.{skip-on, skip-one, skip-none}
 use Rattle.text.proofs.row_behind.Statement.{statement}
 use Rattle.text.proofs.row_behind.Tie as tie

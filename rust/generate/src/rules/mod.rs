@@ -1,15 +1,16 @@
 //! Every rule of the description, each with a way to break it alone.
 
 mod constructors;
+mod expressions;
 mod fields;
 mod names;
 mod operands;
 mod pieces;
 mod uses;
 
-use reference::{Description, Fault, Operand, Piece};
+use reference::{Description, Expression, Fault, Operand, Piece, Step};
 
-use crate::example::field;
+use crate::example::{expression, field};
 use crate::well_formed::used_operand;
 use crate::write::LIMITS;
 use crate::Rng;
@@ -29,6 +30,7 @@ pub fn rules() -> impl Iterator<Item = &'static Rule> {
         .chain(uses::RULES)
         .chain(operands::RULES)
         .chain(pieces::RULES)
+        .chain(expressions::RULES)
 }
 
 fn fault(section: u16, record: usize) -> Option<Fault> {
@@ -73,6 +75,18 @@ pub(crate) fn good_operands(
     (0..count)
         .map(|position| used_operand(rng, &d.fields, &tables, position))
         .collect()
+}
+
+/// The number of a new expression.
+pub(crate) fn add_expression(d: &mut Description, expression: Expression) -> Option<u8> {
+    let number = u8::try_from(d.expressions.len()).ok()?;
+    d.expressions.push(expression);
+    Some(number)
+}
+
+/// The number of a new expression that names nothing.
+pub(crate) fn constant(d: &mut Description) -> Option<u8> {
+    add_expression(d, expression(&[Step::default()]))
 }
 
 /// Gives a constructor operand records of its own and no pieces, so that

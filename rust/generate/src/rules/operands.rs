@@ -1,9 +1,12 @@
 //! The rules of section 4, for used and for unused records.
 
-use reference::{Description, Fault, Operand};
+use reference::{Description, Fault, Operand, Step};
 
-use super::{fault, give_operands, good_operands, some_constructor, some_field, Rule};
-use crate::example::operand;
+use super::{
+    add_expression, constant, fault, give_operands, good_operands, some_constructor, some_field,
+    Rule,
+};
+use crate::example::{expression, operand, step};
 use crate::write::LIMITS;
 use crate::Rng;
 
@@ -15,6 +18,13 @@ pub const RULES: &[Rule] = &[
     ("context field anchor, unused", context_anchor_unused),
     ("context field offset, used", context_offset_used),
     ("context field offset, unused", context_offset_unused),
+    ("computed operand index", expression_index),
+    ("computed operand index, used", expression_index_used),
+    ("computed operand anchor, used", computed_anchor_used),
+    ("computed operand anchor, unused", computed_anchor_unused),
+    ("computed operand offset, used", computed_offset_used),
+    ("computed operand offset, unused", computed_offset_unused),
+    ("expression of a bad field operand", bad_field_named),
 ];
 
 /// Some record, which users may have or not.
@@ -25,9 +35,13 @@ fn some_record(d: &mut Description, rng: &mut Rng) -> usize {
     rng.below(d.operands.len())
 }
 
+/// No field that an expression may name: that would be its user's fault.
 fn kind(d: &mut Description, rng: &mut Rng) -> Option<Fault> {
-    let record = some_record(d, rng);
-    d.operands[record].kind = rng.pick(&[2, 2, 3, 255]);
+    some_record(d, rng);
+    let record = rng.index_where(d.operands.len(), |i| {
+        d.expressions.is_empty() || d.operands[i].kind != Operand::FIELD
+    })?;
+    d.operands[record].kind = rng.pick(&[3, 3, 4, 255]);
     fault(4, record)
 }
 
@@ -91,4 +105,61 @@ fn context_offset_used(d: &mut Description, rng: &mut Rng) -> Option<Fault> {
     let index = some_field(d, rng, true)?;
     let offset = rng.byte_within(1..=15);
     used(d, rng, operand(Operand::FIELD, index, 0, offset))
+}
+
+/// A number that no expression has.
+fn no_expression(d: &Description, rng: &mut Rng) -> Option<u8> {
+    let past = u8::try_from(d.expressions.len()).ok()?;
+    Some(match rng.once_in(3) {
+        true => rng.byte_within(past..=255),
+        false => past,
+    })
+}
+
+fn expression_index(d: &mut Description, rng: &mut Rng) -> Option<Fault> {
+    let index = no_expression(d, rng)?;
+    unused(d, operand(Operand::COMPUTED, index, 0, 0))
+}
+
+fn expression_index_used(d: &mut Description, rng: &mut Rng) -> Option<Fault> {
+    let index = no_expression(d, rng)?;
+    used(d, rng, operand(Operand::COMPUTED, index, 0, 0))
+}
+
+fn computed_anchor_used(d: &mut Description, rng: &mut Rng) -> Option<Fault> {
+    let index = constant(d)?;
+    used(d, rng, operand(Operand::COMPUTED, index, 1, 0))
+}
+
+fn computed_anchor_unused(d: &mut Description, rng: &mut Rng) -> Option<Fault> {
+    let index = constant(d)?;
+    let anchor = rng.pick(&[1, 1, 2, 8, 9, 255]);
+    unused(d, operand(Operand::COMPUTED, index, anchor, 0))
+}
+
+fn computed_offset_used(d: &mut Description, rng: &mut Rng) -> Option<Fault> {
+    let index = constant(d)?;
+    let offset = rng.pick(&[1, 1, 15, 16, 255]);
+    used(d, rng, operand(Operand::COMPUTED, index, 0, offset))
+}
+
+fn computed_offset_unused(d: &mut Description, rng: &mut Rng) -> Option<Fault> {
+    let index = constant(d)?;
+    let offset = rng.pick(&[1, 1, 15, 16, 255]);
+    unused(d, operand(Operand::COMPUTED, index, 0, offset))
+}
+
+/// An expression may name a field operand whose index is bad, and that is the
+/// operand's fault alone.
+fn bad_field_named(d: &mut Description, rng: &mut Rng) -> Option<Fault> {
+    let past = u8::try_from(d.fields.len()).ok()?;
+    let user = some_constructor(d, rng);
+    let index = add_expression(d, expression(&[step(Step::OPERAND, 2)]))?;
+    let first = d.operands.len();
+    let operands = [
+        operand(Operand::COMPUTED, index, 0, 0),
+        operand(Operand::FIELD, past, 0, 0),
+    ];
+    give_operands(d, user, &operands)?;
+    fault(4, first + 1)
 }

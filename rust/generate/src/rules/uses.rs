@@ -1,13 +1,14 @@
 //! The rules of section 3 about the operands and pieces that a constructor
 //! uses.
 
-use reference::{Constructor, Description, Fault, Operand, Pattern};
+use reference::{Constructor, Description, Fault, Operand, Pattern, Step};
 
 use super::{
-    fault, give_operands, give_pieces, good_operands, lower_tables, some_constructor, some_field,
-    Rule,
+    add_expression, constant, fault, give_operands, give_pieces, good_operands, lower_tables,
+    some_constructor, some_field, Rule,
 };
-use crate::example::{operand, shown};
+use crate::example::{operand, shown, step};
+use crate::expressions::some_expression;
 use crate::write::LIMITS;
 use crate::Rng;
 
@@ -20,10 +21,18 @@ pub const RULES: &[Rule] = &[
     ("anchor of a field", anchor_of_field),
     ("anchor of a context field not earlier", anchor_of_context),
     ("anchor of a table", anchor_of_table),
+    ("anchor of a computed operand", anchor_of_computed),
     ("anchor of an unknown kind", anchor_of_unknown),
     ("operand 0 shown", shown_0),
     ("operand past the count shown", shown_past),
     ("operand shown twice", shown_twice),
+    ("expression of operand 0", names_0),
+    ("expression of an operand past the count", names_past),
+    ("expression of itself", names_itself),
+    ("expression of a computed operand", names_computed),
+    ("expression of a table operand", names_table),
+    ("expression of an unknown kind", names_unknown),
+    ("expression that fits another user only", names_for_another),
 ];
 
 /// Gives some constructor operands with this one among them.
@@ -140,8 +149,14 @@ fn anchor_of_table(d: &mut Description, rng: &mut Rng) -> Option<Fault> {
 
 fn anchor_of_unknown(d: &mut Description, rng: &mut Rng) -> Option<Fault> {
     let user = some_constructor(d, rng);
-    let kind = rng.pick(&[2, 2, 3, 255]);
+    let kind = rng.pick(&[3, 3, 4, 255]);
     use_anchor(d, rng, kind, 0, user)
+}
+
+fn anchor_of_computed(d: &mut Description, rng: &mut Rng) -> Option<Fault> {
+    let user = some_constructor(d, rng);
+    let index = constant(d)?;
+    use_anchor(d, rng, Operand::COMPUTED, index, user)
 }
 
 /// Gives some constructor operands, all of them shown, and shows one more.
@@ -170,4 +185,85 @@ fn shown_past(d: &mut Description, rng: &mut Rng) -> Option<Fault> {
 
 fn shown_twice(d: &mut Description, rng: &mut Rng) -> Option<Fault> {
     show(d, rng, |rng, count| rng.byte_within(1..=count))
+}
+
+/// Gives some constructor fields, one operand that its expression names, and
+/// that expression.
+fn name_operand(d: &mut Description, rng: &mut Rng, user: usize, named: Operand) -> Option<Fault> {
+    let number = rng.byte_within(1..=8);
+    let computed = computed(d, rng, number)?;
+    let field = some_field(d, rng, false)?;
+    let mut operands = [operand(Operand::FIELD, field, 0, 0); 8];
+    let at = usize::from(number) - 1;
+    operands[at] = named;
+    operands[(at + rng.within(1..=7)) % 8] = computed;
+    give_operands(d, user, &operands)?;
+    fault(3, user)
+}
+
+/// A computed operand whose expression names this number somewhere.
+fn computed(d: &mut Description, rng: &mut Rng, number: u8) -> Option<Operand> {
+    let steps = rng.within(1..=16);
+    let mut naming = some_expression(rng, &[number], steps);
+    let terms = usize::from(naming.step_count);
+    let term = rng.index_where(terms, |i| naming.steps[i].kind <= Step::ADDRESS_AFTER)?;
+    naming.steps[term] = step(Step::OPERAND, number.into());
+    let index = add_expression(d, naming)?;
+    Some(operand(Operand::COMPUTED, index, 0, 0))
+}
+
+fn names_0(d: &mut Description, rng: &mut Rng) -> Option<Fault> {
+    let user = some_constructor(d, rng);
+    let computed = computed(d, rng, 0)?;
+    use_operand(d, rng, user, computed)
+}
+
+fn names_past(d: &mut Description, rng: &mut Rng) -> Option<Fault> {
+    let user = some_constructor(d, rng);
+    let count = rng.byte_within(1..=8);
+    let past = rng.byte_within(count + 1..=255);
+    let number = rng.pick(&[count + 1, count + 1, 9.max(count + 1), 255, past]);
+    let mut operands = good_operands(d, rng, user, usize::from(count))?;
+    operands[rng.below(usize::from(count))] = computed(d, rng, number)?;
+    give_operands(d, user, &operands)?;
+    fault(3, user)
+}
+
+fn names_itself(d: &mut Description, rng: &mut Rng) -> Option<Fault> {
+    let user = some_constructor(d, rng);
+    let computed = computed(d, rng, 1)?;
+    give_operands(d, user, &[computed])?;
+    fault(3, user)
+}
+
+fn names_computed(d: &mut Description, rng: &mut Rng) -> Option<Fault> {
+    let user = some_constructor(d, rng);
+    let index = constant(d)?;
+    name_operand(d, rng, user, operand(Operand::COMPUTED, index, 0, 0))
+}
+
+fn names_table(d: &mut Description, rng: &mut Rng) -> Option<Fault> {
+    let lowest = d.constructors[0].table;
+    let user = rng.index_where(d.constructors.len(), |i| d.constructors[i].table > lowest)?;
+    let table = rng.pick(&lower_tables(d, user));
+    name_operand(d, rng, user, operand(Operand::TABLE, table, 0, 0))
+}
+
+fn names_unknown(d: &mut Description, rng: &mut Rng) -> Option<Fault> {
+    let user = some_constructor(d, rng);
+    let kind = rng.pick(&[3, 3, 4, 255]);
+    name_operand(d, rng, user, operand(kind, 0, 0, 0))
+}
+
+/// Two constructors share the records, and one of them takes one more.
+fn names_for_another(d: &mut Description, rng: &mut Rng) -> Option<Fault> {
+    let user = some_constructor(d, rng);
+    let other = rng.index_where(d.constructors.len(), |i| i != user)?;
+    let field = some_field(d, rng, false)?;
+    let operands = [computed(d, rng, 2)?, operand(Operand::FIELD, field, 0, 0)];
+    give_operands(d, user, &operands)?;
+    give_pieces(d, other, &[])?;
+    d.constructors[other].first_operand = d.constructors[user].first_operand;
+    d.constructors[other].operand_count = 1;
+    fault(3, other)
 }

@@ -42,12 +42,15 @@ fn compare() -> Result<usize, String> {
     let long = long.flat_map(|opcode| second_words().map(move |second| [opcode, second]));
     let second = Counts::of(&description, long.collect())?;
     println!("every opcode of four bytes, then other words\n{second}");
-    Ok(first.different + second.different)
+    let back = (0xc800..=0xcfff).chain(0xd800..=0xdfff);
+    let third = Counts::of(&description, back.map(|opcode| [opcode, 0]).collect())?;
+    println!("every jump back by twelve bits, from address 0 on\n{third}");
+    Ok(first.different + second.different + third.different)
 }
 
 fn is_long(description: &Description, opcode: u16) -> bool {
     let code = [opcode.to_le_bytes(), SECOND_WORD.to_le_bytes()];
-    match reference::decode(description, 0, code.as_flattened()) {
+    match reference::decode(description, 0, 0, code.as_flattened()) {
         Ok(rows) => rows[0][3] == 4,
         Err(_) => false,
     }
@@ -66,11 +69,11 @@ struct Counts {
     all: usize,
     lengths: usize,
     mnemonics: usize,
+    lines: usize,
     texts: usize,
     no_match: usize,
-    words_for_bytes: usize,
+    hexadecimal: usize,
     numbers: usize,
-    addresses: usize,
     undefined: usize,
     different: usize,
 }
@@ -93,13 +96,14 @@ impl Counts {
     }
 
     fn add(&mut self, verdict: &Verdict, comment: Comment) {
-        self.numbers += usize::from(comment == Comment::Number);
-        self.addresses += usize::from(comment == Comment::Address);
-        self.undefined += usize::from(comment == Comment::Undefined);
         let (length, mnemonic, count) = match verdict {
-            Verdict::Same => (true, true, &mut self.texts),
+            Verdict::Same => (true, true, &mut self.lines),
+            Verdict::WithoutComment if comment == Comment::Number => {
+                (true, true, &mut self.numbers)
+            }
+            Verdict::WithoutComment => (true, true, &mut self.undefined),
             Verdict::NoMatch => (true, false, &mut self.no_match),
-            Verdict::WordsForBytes => (true, true, &mut self.words_for_bytes),
+            Verdict::Hexadecimal => (true, true, &mut self.hexadecimal),
             Verdict::Different {
                 length, mnemonic, ..
             } => (*length, *mnemonic, &mut self.different),
@@ -107,6 +111,8 @@ impl Counts {
         *count += 1;
         self.lengths += usize::from(length);
         self.mnemonics += usize::from(mnemonic);
+        let same_text = matches!(verdict, Verdict::Same | Verdict::WithoutComment);
+        self.texts += usize::from(same_text);
     }
 }
 
@@ -116,16 +122,16 @@ impl Display for Counts {
             ("instructions", self.all),
             ("length agrees", self.lengths),
             ("mnemonic agrees", self.mnemonics),
-            ("whole text agrees", self.texts),
+            ("whole line agrees", self.lines),
+            ("text before the comment agrees", self.texts),
             ("class 1: no match for .word", self.no_match),
-            ("class 2: words for bytes", self.words_for_bytes),
-            ("class 3: number given again", self.numbers),
-            ("class 4: address given", self.addresses),
-            ("class 5: called undefined", self.undefined),
+            ("class 2: hexadecimal displacement", self.hexadecimal),
+            ("class 3: number not given again", self.numbers),
+            ("class 4: not called undefined", self.undefined),
             ("other differences", self.different),
         ];
         for (name, count) in lines {
-            writeln!(f, "  {name:<29}{count:>6}")?;
+            writeln!(f, "  {name:<33}{count:>6}")?;
         }
         Ok(())
     }

@@ -12,55 +12,49 @@ pub const MACHINE: &str = "avr:5";
 
 /// An instruction's two words and two of nop, so that the next one starts
 /// cleanly however long this one is.
-const STEP: usize = 8;
+const STEP: u32 = 8;
 
-/// One line of the disassembly.
+/// One line of the disassembly, with one blank for blanks and tabs.
 pub struct Line {
+    pub address: u32,
     pub length: usize,
-    /// Mnemonic and operands with one blank between.
+    /// Mnemonic and operands.
     pub text: String,
+    /// The same with what stands behind the semicolon.
+    pub whole: String,
     pub comment: Comment,
 }
 
 /// What objdump adds behind a semicolon.
 #[derive(Clone, Copy, Debug, PartialEq, Eq)]
 pub enum Comment {
-    Nothing,
     /// An operand again in another base.
     Number,
-    /// The address that the operands lead to.
-    Address,
     /// A register that the instruction uses and changes at once.
     Undefined,
     /// No instruction.
     Data,
-    Unknown,
+    /// Nothing, or an address, which has one blank more before it.
+    Other,
 }
 
 impl Comment {
     fn of(said: &str) -> Comment {
-        if let Some(address) = said.strip_prefix("  0x") {
-            return match u32::from_str_radix(address, 16) {
-                Ok(_) => Comment::Address,
-                Err(_) => Comment::Unknown,
-            };
-        }
-        let number = said.trim_start();
+        let number = said.strip_prefix(' ').unwrap_or_default();
         let number = number.strip_prefix("0x").unwrap_or(number);
         match said {
-            "" => Comment::Nothing,
             " undefined" => Comment::Undefined,
             " ????" => Comment::Data,
             _ if u32::from_str_radix(number, 16).is_ok() => Comment::Number,
-            _ => Comment::Unknown,
+            _ => Comment::Other,
         }
     }
 }
 
 impl Display for Line {
     fn fmt(&self, f: &mut Formatter<'_>) -> std::fmt::Result {
-        let (text, length, comment) = (&self.text, self.length, self.comment);
-        write!(f, "{text:?} of {length} bytes, comment {comment:?}")
+        let (whole, length) = (&self.whole, self.length);
+        write!(f, "{whole:?} of {length} bytes")
     }
 }
 
@@ -107,32 +101,37 @@ fn run(command: &mut Command) -> Result<String, String> {
 /// The lines at the starts of instructions: each must have one.
 fn lines(said: &str, count: usize) -> Result<Vec<Line>, String> {
     let starts = said.lines().filter_map(line);
-    let starts = starts.filter(|(address, _)| address.is_multiple_of(STEP));
-    let lines: Vec<Line> = starts
-        .enumerate()
-        .take_while(|(i, (address, _))| *address == i * STEP)
-        .map(|(_, (_, line))| line)
+    let starts = starts.filter(|line| line.address.is_multiple_of(STEP));
+    let lines: Vec<Line> = (0..)
+        .step_by(STEP as usize)
+        .zip(starts)
+        .take_while(|(address, line)| line.address == *address)
+        .map(|(_, line)| line)
         .collect();
     match lines.len() == count {
         true => Ok(lines),
-        false => Err(format!("no line at {:#x}", lines.len() * STEP)),
+        false => Err(format!("no line at {:#x}", lines.len() * STEP as usize)),
     }
 }
 
-/// An address and its line: address, bytes, mnemonic, operands and comment stand
-/// between tabs. Nothing for a line that is no instruction.
-fn line(said: &str) -> Option<(usize, Line)> {
+/// Address, bytes, mnemonic, operands and comment stand between tabs. Nothing
+/// for a line that is no instruction.
+pub fn line(said: &str) -> Option<Line> {
     let (address, rest) = said.split_once(":\t")?;
-    let address = usize::from_str_radix(address.trim(), 16).ok()?;
-    let (bytes, rest) = rest.split_once('\t')?;
-    let (text, comment) = rest.split_once(';').unwrap_or((rest, ""));
-    let parts: Vec<&str> = text.trim().split('\t').map(str::trim).collect();
-    let line = Line {
+    let (bytes, whole) = rest.split_once('\t')?;
+    let (text, comment) = whole.split_once(';').unwrap_or((whole, ""));
+    Some(Line {
+        address: u32::from_str_radix(address.trim(), 16).ok()?,
         length: bytes.split_whitespace().count(),
-        text: parts.join(" "),
+        text: one_blank(text),
+        whole: one_blank(whole),
         comment: Comment::of(comment),
-    };
-    Some((address, line))
+    })
+}
+
+fn one_blank(text: &str) -> String {
+    let words: Vec<&str> = text.split_whitespace().collect();
+    words.join(" ")
 }
 
 #[cfg(test)]
@@ -141,24 +140,22 @@ mod tests {
 
     #[test]
     fn parts_of_a_line() {
-        let (address, line) = line("   60008:\t01 c0       \trjmp\t.+2      \t;  0x6000c").unwrap();
-        assert_eq!((address, line.length), (0x60008, 2));
-        assert_eq!(
-            (line.text.as_str(), line.comment),
-            ("rjmp .+2", Comment::Address)
-        );
+        let line = line("   60008:\t01 c0       \trjmp\t.+2      \t;  0x6000c").unwrap();
+        assert_eq!((line.address, line.length), (0x60008, 2));
+        assert_eq!(line.text, "rjmp .+2");
+        assert_eq!(line.whole, "rjmp .+2 ; 0x6000c");
     }
 
     #[test]
     fn comments() {
-        let comment = |text: &str| line(&format!(" 8:\t00 00 \tx{text}")).unwrap().1.comment;
-        assert_eq!(comment(""), Comment::Nothing);
+        let comment = |text: &str| line(&format!(" 8:\t00 00 \tx{text}")).unwrap().comment;
+        assert_eq!(comment(""), Comment::Other);
         assert_eq!(comment("\t; 255"), Comment::Number);
         assert_eq!(comment("\t; 0x3f"), Comment::Number);
-        assert_eq!(comment("\t;  0x800000"), Comment::Address);
+        assert_eq!(comment("\t;  0x800000"), Comment::Other);
         assert_eq!(comment("\t; undefined"), Comment::Undefined);
         assert_eq!(comment("\t; ????"), Comment::Data);
-        assert_eq!(comment("\t; zero"), Comment::Unknown);
+        assert_eq!(comment("\t; zero"), Comment::Other);
     }
 
     #[test]

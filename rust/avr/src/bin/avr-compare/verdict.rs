@@ -5,13 +5,15 @@ use reference::{Description, Refusal};
 use crate::objdump::{Comment, Line};
 
 pub enum Verdict {
-    /// The same length and the same text to the letter.
+    /// The same length and the same line to the letter.
     Same,
+    /// The same but for a comment that is not shown.
+    WithoutComment,
     /// A word that is no instruction: objdump takes it as two bytes of data.
     NoMatch,
-    /// A jump by twelve bits: the field's number of words, where objdump has
-    /// twice that, in bytes.
-    WordsForBytes,
+    /// A jump by twelve bits: the same but for the displacement, which is in
+    /// hexadecimal where objdump has it in decimal.
+    Hexadecimal,
     /// Anything else, and whether at least length and mnemonic are the same.
     Different {
         length: bool,
@@ -23,7 +25,7 @@ pub enum Verdict {
 /// Compares what the description says of two words with objdump's line.
 pub fn judge(description: &Description, words: &[u16; 2], theirs: &Line) -> Verdict {
     let code = words.map(u16::to_le_bytes);
-    match decoded(description, code.as_flattened()) {
+    match decoded(description, theirs.address, code.as_flattened()) {
         Ok((length, text)) => judge_decoded(length, text, theirs),
         Err(Refusal::NoMatch { place: 0, table })
             if table == description.root() && is_data(words[0], theirs) =>
@@ -38,9 +40,13 @@ pub fn judge(description: &Description, words: &[u16; 2], theirs: &Line) -> Verd
     }
 }
 
-fn decoded(description: &Description, code: &[u8]) -> Result<(usize, String), Refusal> {
-    let rows = reference::decode(description, 0, code)?;
-    let text = reference::decode_text(description, 0, code)?;
+fn decoded(
+    description: &Description,
+    address: u32,
+    code: &[u8],
+) -> Result<(usize, String), Refusal> {
+    let rows = reference::decode(description, 0, address, code)?;
+    let text = reference::decode_text(description, 0, address, code)?;
     Ok((
         rows[0][3] as usize,
         String::from_utf8_lossy(&text).into_owned(),
@@ -49,12 +55,15 @@ fn decoded(description: &Description, code: &[u8]) -> Result<(usize, String), Re
 
 fn judge_decoded(length: usize, text: String, theirs: &Line) -> Verdict {
     let same_length = length == theirs.length;
-    let sound = same_length && !matches!(theirs.comment, Comment::Data | Comment::Unknown);
-    if sound && text == theirs.text {
+    let may_miss = matches!(theirs.comment, Comment::Number | Comment::Undefined);
+    if same_length && text == theirs.whole {
         return Verdict::Same;
     }
-    if sound && in_bytes(&text).as_deref() == Some(&theirs.text) {
-        return Verdict::WordsForBytes;
+    if same_length && may_miss && text == theirs.text {
+        return Verdict::WithoutComment;
+    }
+    if same_length && in_decimal(&text).as_deref() == Some(&theirs.whole) {
+        return Verdict::Hexadecimal;
     }
     Verdict::Different {
         length: same_length,
@@ -72,88 +81,73 @@ fn mnemonic(text: &str) -> &str {
     text.split(' ').next().unwrap_or_default()
 }
 
-/// A jump by twelve bits with its displacement in bytes.
-fn in_bytes(text: &str) -> Option<String> {
-    let (mnemonic, displacement) = text.split_once(' ')?;
+/// A jump by twelve bits with its displacement in decimal.
+fn in_decimal(text: &str) -> Option<String> {
+    let (jump, target) = text.split_once(" ; ")?;
+    let (mnemonic, displacement) = jump.split_once(" .")?;
     if !matches!(mnemonic, "rjmp" | "rcall") {
         return None;
     }
-    let words: i32 = displacement.parse().ok()?;
-    Some(format!("{mnemonic} .{:+}", 2 * words))
+    let (sign, digits) = displacement.split_once("0x")?;
+    let bytes = i32::from_str_radix(&format!("{sign}{digits}"), 16).ok()?;
+    Some(format!("{mnemonic} .{bytes:+} ; {target}"))
 }
 
 #[cfg(test)]
 mod tests {
     use super::{judge, Verdict};
-    use crate::objdump::{Comment, Line};
+    use crate::objdump::line;
 
-    /// The verdict on two words if objdump had this line: the kind's number,
-    /// and for a difference whether length and mnemonic are the same.
-    fn verdict(words: [u16; 2], length: usize, text: &str, comment: Comment) -> (u8, bool, bool) {
+    /// The verdict on two words if objdump had this line at address 8: the
+    /// kind's number, and for a difference whether length and mnemonic are the
+    /// same.
+    fn verdict(words: [u16; 2], said: &str) -> (u8, bool, bool) {
         let description = reference::check(&avr::description()).unwrap();
-        let line = Line {
-            length,
-            text: text.to_string(),
-            comment,
-        };
+        let line = line(&format!("   8:\t{said}")).unwrap();
         match judge(&description, &words, &line) {
             Verdict::Same => (0, true, true),
-            Verdict::NoMatch => (1, true, false),
-            Verdict::WordsForBytes => (2, true, true),
+            Verdict::WithoutComment => (1, true, true),
+            Verdict::NoMatch => (2, true, false),
+            Verdict::Hexadecimal => (3, true, true),
             Verdict::Different {
                 length, mnemonic, ..
-            } => (3, length, mnemonic),
+            } => (4, length, mnemonic),
         }
     }
 
     #[test]
     fn allowed() {
-        let add = [0x0c01, 0];
-        assert_eq!(verdict(add, 2, "add r0, r1", Comment::Nothing).0, 0);
-        assert_eq!(verdict([1, 0], 2, ".word 0x0001", Comment::Data).0, 1);
-        assert_eq!(verdict([0xc001, 0], 2, "rjmp .+2", Comment::Address).0, 2);
-        assert_eq!(verdict([0xdfff, 0], 2, "rcall .-2", Comment::Address).0, 2);
+        let kind = |words, said| verdict(words, said).0;
+        assert_eq!(kind([0x0c01, 0], "01 0c \tadd\tr0, r1"), 0);
+        assert_eq!(kind([0xf3f9, 0], "f9 f3 \tbreq\t.-2  \t;  0x8"), 0);
+        assert_eq!(kind([0x940c, 0], "0c 94 00 00 \tjmp\t0\t;  0x0"), 0);
+        assert_eq!(kind([0xe005, 0], "05 e0 \tldi\tr16, 0x05\t; 5"), 1);
+        assert_eq!(kind([0x91ad, 0], "ad 91 \tld\tr26, X+\t; undefined"), 1);
+        assert_eq!(kind([1, 0], "01 00 \t.word\t0x0001\t; ????"), 2);
+        assert_eq!(kind([0xc001, 0], "01 c0 \trjmp\t.+2  \t;  0xc"), 3);
+        assert_eq!(kind([0xdfff, 0], "ff df \trcall\t.-2  \t;  0x8"), 3);
     }
 
     #[test]
     fn different() {
-        let verdicts = [
-            (
-                verdict([0x0c01, 0], 2, "add r0, r2", Comment::Nothing),
-                (true, true),
-            ),
-            (
-                verdict([0x0c01, 0], 2, "adc r0, r1", Comment::Nothing),
-                (true, false),
-            ),
-            (
-                verdict([0x0c01, 0], 4, "add r0, r1", Comment::Nothing),
-                (false, true),
-            ),
-            (
-                verdict([0x0c01, 0], 2, "add r0, r1", Comment::Unknown),
-                (true, true),
-            ),
-            (
-                verdict([0xc001, 0], 2, "rjmp .+1", Comment::Address),
-                (true, true),
-            ),
-            (
-                verdict([0xc001, 0], 4, "rjmp .+2", Comment::Address),
-                (false, true),
-            ),
-            (
-                verdict([1, 0], 2, ".word 0x0002", Comment::Data),
-                (false, false),
-            ),
-            (verdict([1, 0], 2, "nop", Comment::Nothing), (false, false)),
-            (
-                verdict([0, 0], 2, ".word 0x0000", Comment::Data),
-                (true, false),
-            ),
+        let (add, rjmp, no) = ([0x0c01, 0], [0xc001, 0], [1, 0]);
+        let differences = [
+            (add, "01 0c \tadd\tr0, r2", (true, true)),
+            (add, "01 0c \tadc\tr0, r1", (true, false)),
+            (add, "01 0c 00 00 \tadd\tr0, r1", (false, true)),
+            (add, "01 0c \tadd\tr0, r1\t; ????", (true, true)),
+            (add, "01 0c \tadd\tr0, r1\t;  0x8", (true, true)),
+            (rjmp, "01 c0 \trjmp\t.+4  \t;  0xc", (true, true)),
+            (rjmp, "01 c0 \trjmp\t.+2  \t;  0xe", (true, true)),
+            (rjmp, "01 c0 \trjmp\t.+2", (true, true)),
+            (rjmp, "01 c0 00 00 \trjmp\t.+2  \t;  0xc", (false, true)),
+            ([0xf3f9, 0], "f9 f3 \tbreq\t.-2  \t;  0xa", (true, true)),
+            (no, "01 00 \t.word\t0x0002\t; ????", (false, false)),
+            (no, "01 00 \tnop", (false, false)),
+            ([0, 0], "00 00 \t.word\t0x0000\t; ????", (true, false)),
         ];
-        for ((kind, length, mnemonic), expected) in verdicts {
-            assert_eq!((kind, length, mnemonic), (3, expected.0, expected.1));
+        for (words, said, (length, mnemonic)) in differences {
+            assert_eq!(verdict(words, said), (4, length, mnemonic), "{said}");
         }
     }
 }
