@@ -82,10 +82,10 @@ uint32_t dookerand_clash(const uint8_t *description, size_t description_len, uin
 uint32_t dookerand_tree(const uint8_t *description, size_t description_len, uint32_t table, const uint8_t *tree,
                         size_t tree_len, uint64_t values[4]);
 
-/* Decodes the instruction at the code's start, which has this address, to rows of four numbers each, in the order of the
- * walk: 0, constructor, start, length; 1, field, start, value; 2, field, start, name number; 3, expression, start, value.
- * `rows_len` counts numbers, 128 always suffice, and `rows` overlaps no other slice. Only answer 0 writes there: its
- * rows, from rows[0] on, and nothing behind them. 0: the rows written. 1: section, record. 2: place. 3 and 4: place,
+/* Decodes the instruction at the code's start, which has this address, to rows of four numbers each, in the order of
+ * the walk: 0, constructor, start, length; 1, field, start, value; 2, field, start, name number; 3, expression, start,
+ * value. `rows_len` counts numbers, 128 always suffice, and `rows` overlaps no other slice. Only answer 0 writes there:
+ * its rows, from rows[0] on, and nothing behind them. 0: the rows written. 1: section, record. 2: place. 3 and 4: place,
  * table number. 5, 6 and 13: place. 7, 8 and 9: 0. */
 uint32_t dookerand_decode(const uint8_t *description, size_t description_len, uint32_t context, uint32_t address,
                           const uint8_t *code, size_t code_len, int64_t *rows, size_t rows_len, uint64_t values[4]);

@@ -18,7 +18,7 @@ use Rattle.acceptance.specs.declared.Acceptance.{Acceptance}
 use Rattle.acceptance.specs.declared.Acceptance.the-variants as acceptance
 use Rattle.acceptance.specs.declared.Acceptance.the-variants.{Accepted}
 use Rattle.acceptance.proofs.Facts.{accepted-formed}
-use Rattle.sweep.specs.Sweep.{SweepRow, Sweep, joined, endAt, rowAt, rowThen, stepAt, sweepFrom, numbersOf, sweepIn, answerOf, bufferWith, sweepOf, bufferAfter, noRoot}
+use Rattle.sweep.specs.Sweep.{SweepRow, Sweep, joined, endAt, rowAt, rowThen, stepAt, sweepBy, sweepFrom, numbersOf, sweepIn, answerOf, bufferWith, sweepOf, bufferAfter, noRoot}
 use Rattle.sweep.specs.Facts.{Tiled, Extends}
 use Rattle.sweep.specs.declared.End.{End}
 use Rattle.sweep.specs.declared.End.the-variants as end
@@ -31,7 +31,7 @@ use Rattle.sweep.proofs.Turns.{numbers-length, numbers-append, no-room,
 
 module _ (d : Description) (o : RulesHold d) (few : length (d .constructors) ≤ noRoot) (c a : ℕ) (s : List ℕ) where
   tile : (room at : ℕ) → at ≤ length s → Tiled d c a s at (sweepFrom d c a s room at)
-  unfolding sweepFrom
+  unfolding sweepBy
   tile zero at h = go (leb (length s) at)
     where
       go : (b : Bool) → Tiled d c a s at (cond b (endAt end.Used at) (endAt end.Full at))
@@ -66,7 +66,7 @@ sweep-tiles b l e c a s numbers =
 
 module _ (d : Description) (c a : ℕ) (s : List ℕ) where
   begins : (m n at : ℕ) → m ≤ n → sweepFrom d c a s m at .rows ≡ take m (sweepFrom d c a s n at .rows)
-  unfolding sweepFrom
+  unfolding sweepBy
   begins zero n at h = go (leb (length s) at)
     where
       go : (b : Bool) → cond b (endAt end.Used at) (endAt end.Full at) .rows ≡ []
@@ -103,7 +103,7 @@ module _ (d : Description) (o : RulesHold d) (few : length (d .constructors) ≤
   no-more room at why = let z : room - 0 ≡ room = omega arith in rw z
 
   continues : (room at : ℕ) → at ≤ length s → Continues room at (sweepFrom d c a s room at)
-  unfolding sweepFrom
+  unfolding sweepBy
   continues zero at h = go (leb (length s) at)
     where
       go : (b : Bool) → Continues zero at (cond b (endAt end.Used at) (endAt end.Full at))
@@ -133,7 +133,7 @@ module _ (d : Description) (o : RulesHold d) (few : length (d .constructors) ≤
     left : w .next < length s
 
   is-full : (room at : ℕ) → sweepFrom d c a s room at .why ≡ end.Full → AllRows room (sweepFrom d c a s room at)
-  unfolding sweepFrom
+  unfolding sweepBy
   is-full zero at = go (leb (length s) at) refl
     where
       go : (b : Bool) → leb (length s) at ≡ b → cond b (endAt end.Used at) (endAt end.Full at) .why ≡ end.Full

@@ -19,7 +19,7 @@ use Rattle.setting.specs.Fixed.{Fixed, fixedOf, settingIn}
 use Rattle.setting.proofs.Laws.{obeyed-in, few-in, fixed-of, setting-of, fixed-for, setting-for}
 use Rattle.walking.specs.Walks.{toldLength}
 use Rattle.instructions.specs.Instructions.{resultAt}
-use Rattle.sweep.specs.Sweep.{SweepRow, Sweep, joined, endAt, rowAt, noRoot, stepBy, stepAt, sweepFrom, sweepIn, numbersOf}
+use Rattle.sweep.specs.Sweep.{SweepRow, Sweep, joined, endAt, rowAt, noRoot, stepBy, stepAt, sweepBy, sweepFrom, sweepIn, numbersOf}
 use Rattle.sweep.specs.Buffer.{Outcome, OutcomeIn, bufferWithRow}
 use Rattle.sweep.specs.declared.End.{End}
 use Rattle.sweep.specs.declared.End.the-variants as end
@@ -64,22 +64,22 @@ row-behind a old r n e =
 module _ (d : Description) (c a : ℕ) (s : List ℕ) where
   -- what comes at a place
   pub used-up : (room at : ℕ) → length s ≤ at → sweepFrom d c a s room at ≡ endAt end.Used at
-  unfolding sweepFrom
+  unfolding sweepBy
   used-up zero at h = rw (le-leb (length s) at h)
   used-up (suc room) at h = rw (le-leb (length s) at h)
 
   pub no-room : (room at : ℕ) → at < length s → room ≡ 0 → sweepFrom d c a s room at ≡ endAt end.Full at
-  unfolding sweepFrom
+  unfolding sweepBy
   no-room room at h e = rw (e, lt-leb (length s) at h)
 
   pub stops : (room at : ℕ) → at < length s → 0 < room → stepAt d c a s at ≡ Stop → sweepFrom d c a s room at ≡ endAt end.Short at
-  unfolding sweepFrom
+  unfolding sweepBy
   stops zero at h r e = absurd (omega arith)
   stops (suc room) at h r e = rw (lt-leb (length s) at h, e)
 
   pub goes-on : (room at l x k : ℕ) → at < length s → 0 < room → stepAt d c a s at ≡ Row l x k
       → sweepFrom d c a s room at ≡ joined (rowAt at l x k ∷ []) (sweepFrom d c a s (room - 1) (at + l))
-  unfolding sweepFrom
+  unfolding sweepBy
   goes-on zero at l x k h r e = absurd (omega arith)
   goes-on (suc room) at l x k h r e = let z : suc room - 1 ≡ room = omega arith in rw (z, lt-leb (length s) at h, e)
 

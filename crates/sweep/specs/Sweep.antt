@@ -78,10 +78,13 @@ rowThen at (Row l a k) rest = joined (rowAt at l a k ∷ []) (rest (at + l))
 rowThen at Stop rest = endAt end.Short at
 
 -- "It ends, tested in this order before each row, with "used" at the input's end, "full" when no whole row is left, or "short"";
--- "A done instruction moves on by its length." With room for so many rows.
-unfoldable pub sweepFrom : Description → (context address : ℕ) → List ℕ → (room : ℕ) → (at : ℕ) → Sweep
-sweepFrom d c a s zero at = cond (leb (length s) at) (endAt end.Used at) (endAt end.Full at)
-sweepFrom d c a s (suc room) at = cond (leb (length s) at) (endAt end.Used at) (rowThen at (stepAt d c a s at) (sweepFrom d c a s room))
+-- "A done instruction moves on by its length." Over so many bytes, by the step at each place, with room for so many rows.
+unfoldable pub sweepBy : (ℕ → Step) → (size room at : ℕ) → Sweep
+sweepBy step size zero at = cond (leb size at) (endAt end.Used at) (endAt end.Full at)
+sweepBy step size (suc room) at = cond (leb size at) (endAt end.Used at) (rowThen at (step at) (sweepBy step size room))
+
+abbrev pub sweepFrom : Description → (context address : ℕ) → List ℕ → (room at : ℕ) → Sweep
+sweepFrom d c a s = sweepBy (stepAt d c a s) (length s)
 
 -- "rows of four 64-bit numbers"
 unfoldable pub numbersOf : List SweepRow → List ℤ

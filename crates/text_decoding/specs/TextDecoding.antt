@@ -1,10 +1,11 @@
--- Decoding to text: the answers of document 01's table, tested in the order 1, those of the walk, 8, 10, 9.
+-- Decoding to text: the answers of document 01's table, tested in the order 1, those of the walk, 8, 13, 10, 9.
 use Prim.Native.Nat.{ℕ}
 use mathlib.Core.List.{List, [], _∷_}
 use Rattle.format.specs.Description.{Description}
 use Rattle.acceptance.specs.Acceptance.{acceptanceOf, accepting, rejectionNumber, rejectionValues}
 use Rattle.decoding_spec.specs.Tree.{Node}
-use Rattle.decoding_spec.specs.Walk.{Result, done, refused, instructionOf}
+use Rattle.decoding_spec.specs.Walk.{Result, done, refused}
+use Rattle.decoding_spec.specs.Instruction.{instructionOf}
 use Rattle.decoding_spec.specs.Refusals.{refusalNumber, refusalValues}
 use Rattle.text.specs.Text.{textOf}
 use Rattle.text.specs.Lines.{lineOf, lentAfter}
@@ -29,20 +30,20 @@ abbrev pub bufferAfter : Description → List ℕ → Result Node → List ℕ
 bufferAfter d old (done n l st) = lentAfter (textOf d n) old
 bufferAfter d old (refused r) = old
 
--- of the instruction of a description in context c, bytes s as the code
-abbrev pub instructionAnswer : Description → ℕ → List ℕ → ℕ → Texted
-instructionAnswer d c s room = answerOf d room (instructionOf d c s)
+-- of the instruction of a description in context c, at an address, bytes s as the code
+abbrev pub instructionAnswer : Description → (c address : ℕ) → List ℕ → ℕ → Texted
+instructionAnswer d c address s room = answerOf d room (instructionOf d c address s)
 
-abbrev pub instructionBuffer : Description → ℕ → List ℕ → List ℕ → List ℕ
-instructionBuffer d c s old = bufferAfter d old (instructionOf d c s)
+abbrev pub instructionBuffer : Description → (c address : ℕ) → List ℕ → List ℕ → List ℕ
+instructionBuffer d c address s old = bufferAfter d old (instructionOf d c address s)
 
--- bytes b as the description, context c, bytes s as the code, room for so many bytes
-unfoldable pub decodeTextOf : List ℕ → ℕ → List ℕ → ℕ → Texted
-decodeTextOf b c s room = accepting Rejected (λ d. instructionAnswer d c s room) b (acceptanceOf b)
+-- bytes b as the description, context c, the instruction's address, bytes s as the code, room for so many bytes
+unfoldable pub decodeTextOf : List ℕ → (c address : ℕ) → List ℕ → ℕ → Texted
+decodeTextOf b c address s room = accepting Rejected (λ d. instructionAnswer d c address s room) b (acceptanceOf b)
 
 -- the lent bytes afterwards
-unfoldable pub textAfter : List ℕ → ℕ → List ℕ → List ℕ → List ℕ
-textAfter b c s old = accepting (λ x. old) (λ d. instructionBuffer d c s old) b (acceptanceOf b)
+unfoldable pub textAfter : List ℕ → (c address : ℕ) → List ℕ → List ℕ → List ℕ
+textAfter b c address s old = accepting (λ x. old) (λ d. instructionBuffer d c address s old) b (acceptanceOf b)
 
 -- the answer's number in document 01's table ..
 abbrev pub numberOf : Texted → ℕ

@@ -19,13 +19,20 @@ pub enum Texted {
     NoRoom,
 }
 
-fn decode_in(desc: &[u8], layout: Layout, context: u32, code: &[u8], out: &mut [u8]) -> Texted
+fn decode_in(
+    desc: &[u8],
+    layout: Layout,
+    context: u32,
+    address: u32,
+    code: &[u8],
+    out: &mut [u8],
+) -> Texted
     requires { ⌜ WellFormed (now desc) layout ⌝ }
-    ensures { λ r. ⌜ r ≡ instructionAnswer (description (now (desc .entry)) layout) context (now (code .entry)) (length (now (out .entry))) ⌝ }
-    ensures { λ _. ⌜ now (out .exit) ≡ instructionBuffer (description (now (desc .entry)) layout) context (now (code .entry)) (now (out .entry)) ⌝ }
+    ensures { λ r. ⌜ r ≡ instructionAnswer (description (now (desc .entry)) layout) context address (now (code .entry)) (length (now (out .entry))) ⌝ }
+    ensures { λ _. ⌜ now (out .exit) ≡ instructionBuffer (description (now (desc .entry)) layout) context address (now (code .entry)) (now (out .entry)) ⌝ }
 {
     let mut fixed = setting::fill(desc, layout, false);
-    let instruction = walking::decode_at(desc, &mut fixed, context, code, 0);
+    let instruction = instructions::decode_at(desc, &mut fixed, context, address, code, 0);
     let rows = instruction.rows;
     let walked = instruction.walked;
     match walked {
@@ -41,14 +48,20 @@ fn decode_in(desc: &[u8], layout: Layout, context: u32, code: &[u8], out: &mut [
     }
 }
 
-// Any bytes as the description and as the code, any context, any room for the text.
-pub fn decode_text(desc: &[u8], context: u32, code: &[u8], out: &mut [u8]) -> Texted
-    ensures { λ r. ⌜ r ≡ decodeTextOf (now (desc .entry)) context (now (code .entry)) (length (now (out .entry))) ⌝ }
-    ensures { λ _. ⌜ now (out .exit) ≡ textAfter (now (desc .entry)) context (now (code .entry)) (now (out .entry)) ⌝ }
+// Any bytes as the description and as the code, any context and address, any room for the text.
+pub fn decode_text(
+    desc: &[u8],
+    context: u32,
+    address: u32,
+    code: &[u8],
+    out: &mut [u8],
+) -> Texted
+    ensures { λ r. ⌜ r ≡ decodeTextOf (now (desc .entry)) context address (now (code .entry)) (length (now (out .entry))) ⌝ }
+    ensures { λ _. ⌜ now (out .exit) ≡ textAfter (now (desc .entry)) context address (now (code .entry)) (now (out .entry)) ⌝ }
 {
     let acceptance = acceptance::accept(desc);
     match acceptance {
-        Acceptance::Accepted(layout) => decode_in(desc, layout, context, code, out),
+        Acceptance::Accepted(layout) => decode_in(desc, layout, context, address, code, out),
         Acceptance::Rejected(rejection) => Texted::Rejected(rejection),
     }
 }

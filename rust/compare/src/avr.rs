@@ -33,18 +33,21 @@ pub fn compare() {
     for opcode in 0..=u16::MAX {
         let code = [opcode.to_le_bytes(), SECOND_WORD.to_le_bytes()];
         let code = code.as_flattened();
-        let length = opcodes.one(["decode", "text", "ask"], code);
+        // As if the opcodes stood one behind the other.
+        let address = code.len() as u32 * u32::from(opcode);
+        let length = opcodes.one(["decode", "text", "ask"], address, code);
         if length == Some(4) {
             for cut in [2, 3] {
-                opcodes.one(["decode, cut", "text, cut", "ask, cut"], &code[..cut]);
+                let kinds = ["decode, cut", "text, cut", "ask, cut"];
+                opcodes.one(kinds, address, &code[..cut]);
             }
         }
         all.extend(code);
         instructions.extend(&code[..length.unwrap_or(0)]);
     }
     // Behind an opcode that is none, a sweep leaves the grid of words.
-    opcodes.sweep("swept, all", &all);
-    opcodes.sweep("swept, instructions", &instructions);
+    opcodes.sweep("swept, all", 0, &all);
+    opcodes.sweep("swept, instructions", u32::MAX, &instructions);
     print!("{}", opcodes.tally);
 }
 
@@ -57,11 +60,17 @@ struct Opcodes {
 impl Opcodes {
     /// Compares the three requests, and gives the length if there is an
     /// instruction.
-    fn one(&mut self, [decode, text, ask]: [&'static str; 3], code: &[u8]) -> Option<usize> {
+    fn one(
+        &mut self,
+        [decode, text, ask]: [&'static str; 3],
+        address: u32,
+        code: &[u8],
+    ) -> Option<usize> {
         let given = |kind| Given {
             kind,
             description: &self.description,
             context: CONTEXT,
+            address,
             code,
         };
         let (decoded, _, rows) =
@@ -78,11 +87,12 @@ impl Opcodes {
     }
 
     /// Compares one sweep, and counts its rows.
-    fn sweep(&mut self, kind: &'static str, code: &[u8]) {
+    fn sweep(&mut self, kind: &'static str, address: u32, code: &[u8]) {
         let given = Given {
             kind,
             description: &self.description,
             context: CONTEXT,
+            address,
             code,
         };
         let lent = ROW_NUMBERS * code.len();

@@ -3,7 +3,8 @@
 use generate::example::{description_s, full_featured};
 use generate::{
     bytes, change_bytes, change_counts, change_records, count_faults, insert_or_remove, limits,
-    longest, random_records, rules, section_starts, well_formed, Rng, Size, CHANGES,
+    longest, longest_of_all, random_records, rules, section_starts, well_formed, Rng, Size, CHANGES,
+    SECTIONS,
 };
 use reference::{Description, Fault, WHOLE_SECTION};
 
@@ -11,7 +12,7 @@ use crate::agreed::agreed;
 use crate::tally::Tally;
 
 const COLUMNS: &[&str] = &[
-    "well", "counts", "rec 1", "rec 2", "rec 3", "rec 4", "rec 5", "rec 6",
+    "well", "counts", "rec 1", "rec 2", "rec 3", "rec 4", "rec 5", "rec 6", "rec 7",
 ];
 
 /// Compares the check on every kind of description.
@@ -19,7 +20,7 @@ pub fn compare(rng: &mut Rng) {
     let mut check = Check {
         rng,
         tally: Tally::new(COLUMNS),
-        whole: [0; 6],
+        whole: [0; SECTIONS],
         kind: "",
     };
     check.cuts_of_s();
@@ -27,7 +28,8 @@ pub fn compare(rng: &mut Rng) {
     check.allowed_changes();
     check.wrong_counts();
     check.limits();
-    check.longest();
+    check.longest(&longest(), "longest of six, changed");
+    check.longest(&longest_of_all(), "longest, changed");
     check.well_formed();
     check.two_broken_rules();
     check.changed("records changed", 40_000, change_records);
@@ -46,7 +48,7 @@ struct Check<'a> {
     rng: &'a mut Rng,
     tally: Tally,
     /// For each section, faults of its count or length.
-    whole: [usize; 6],
+    whole: [usize; SECTIONS],
     kind: &'static str,
 }
 
@@ -152,12 +154,11 @@ impl Check<'_> {
         }
     }
 
-    fn longest(&mut self) {
-        self.kind = "longest, changed";
-        let longest = longest();
-        let mut whole = bytes(&longest);
+    fn longest(&mut self, longest: &Description, kind: &'static str) {
+        self.kind = kind;
+        let mut whole = bytes(longest);
         self.known(&whole, None, "longest");
-        for start in section_starts(&longest) {
+        for start in section_starts(longest) {
             for cut in start.saturating_sub(40)..(start + 40).min(whole.len()) {
                 self.one(&whole[..cut]);
             }
@@ -169,10 +170,10 @@ impl Check<'_> {
                 self.one(&bytes(&d));
             }
         }
-        for _ in 0..1000 {
+        for _ in 0..500 {
             let cut = self.rng.below(whole.len());
             self.one(&whole[..cut]);
-            let changed = change_records(&longest, self.rng);
+            let changed = change_records(longest, self.rng);
             self.one(&changed);
         }
         whole.push(b' ');

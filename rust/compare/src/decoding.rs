@@ -3,12 +3,12 @@
 use generate::Rng;
 use reference::requests;
 
-use crate::instructions::{Instructions, Request, ANSWERS};
+use crate::instructions::{column, Instructions, Request, ANSWERS};
 use crate::lent::{agreed_with_lent, Given};
 use crate::tally::{print_counts, Tally};
 
 /// What rows may have.
-const FEATURES: [&str; 8] = [
+const FEATURES: [&str; 11] = [
     "a context field",
     "three constructors",
     "nine constructors",
@@ -17,10 +17,20 @@ const FEATURES: [&str; 8] = [
     "length 16",
     "a start of 16",
     "32 rows",
+    "a computed operand",
+    "one below 0",
+    "one inside, with others",
 ];
 
-/// Refusals that name a place, from answer 2 on.
-const PLACED: [&str; 5] = ["short", "no match", "ambiguous", "hole", "too far"];
+/// Refusals that name a place, from answer 2 on; the last is 13.
+const PLACED: [&str; 6] = [
+    "short",
+    "no match",
+    "ambiguous",
+    "hole",
+    "too far",
+    "outside",
+];
 
 /// The fewest requests for each answer, each feature and each refusal at
 /// another place than 0.
@@ -33,7 +43,7 @@ pub fn compare(rng: &mut Rng) {
     let mut instructions = Instructions {
         rng,
         request: Decoding {
-            tally: Tally::new(&ANSWERS[..10]),
+            tally: Tally::new(&ANSWERS[..11]),
             features: [0; FEATURES.len()],
             inside: [0; PLACED.len()],
             past: 0,
@@ -71,7 +81,7 @@ impl Request for Decoding {
     fn one(&mut self, given: &Given, lent: usize) -> (u32, usize) {
         let (number, values, rows) =
             agreed_with_lent(given, lent, requests::rows, dookerand::decode);
-        self.tally.count(given.kind, number as usize);
+        self.tally.count(given.kind, column(number));
         match number {
             0 => {
                 let written = ROW_NUMBERS * values[0] as usize;
@@ -79,6 +89,7 @@ impl Request for Decoding {
                 return (0, written);
             }
             2..=6 => self.inside[number as usize - 2] += usize::from(values[0] > 0),
+            13 => self.inside[PLACED.len() - 1] += usize::from(values[0] > 0),
             _ => {}
         }
         self.past += usize::from(number == 2 && values[0] > given.code.len() as u64);
@@ -90,10 +101,11 @@ impl Decoding {
     fn count_features(&mut self, description: &[u8], rows: &[i64]) {
         let rows: Vec<&[i64]> = rows.chunks(ROW_NUMBERS).collect();
         let any = |test: &dyn Fn(&[i64]) -> bool| rows.iter().any(|row| test(row));
-        let constructors = rows.iter().filter(|row| row[0] == 0).count();
+        let of_kind = |kind: i64| rows.iter().filter(|row| row[0] == kind).count();
+        let (constructors, computed) = (of_kind(0), of_kind(3));
         let features = [
             // A field's source is its record's first byte.
-            any(&|row| row[0] != 0 && description[2 + 8 * row[1] as usize] == 1),
+            any(&|row| matches!(row[0], 1 | 2) && description[2 + 8 * row[1] as usize] == 1),
             constructors >= 3,
             constructors >= 9,
             any(&|row| row[0] == 2),
@@ -101,6 +113,9 @@ impl Decoding {
             rows[0][3] == 16,
             any(&|row| row[2] == 16),
             rows.len() == 32,
+            any(&|row| row[0] == 3),
+            any(&|row| row[0] == 3 && row[3] < 0),
+            computed >= 2 && any(&|row| row[0] == 3 && row[2] > 0),
         ];
         for (count, has) in self.features.iter_mut().zip(features) {
             *count += usize::from(has);

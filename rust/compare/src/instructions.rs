@@ -1,15 +1,16 @@
 //! Descriptions with code, for the requests that decode one instruction.
 
-use generate::example::{description_s, full_featured};
+use generate::example::{description_s, full_featured, target};
 use generate::{
-    bytes, change_bytes, change_records, code, context, decodable, insert_or_remove, longest,
-    planted, rules, well_formed, with_rows, Leaning, Rng, Size,
+    address, bytes, change_bytes, change_records, code, compute_some, context, decodable,
+    insert_or_remove, longest, longest_of_all, planted, rules, some_expression, well_formed,
+    with_rows, Leaning, Rng, Size, EDGE_ADDRESSES,
 };
-use reference::{Description, Operand, Refusal};
+use reference::{Description, Operand, Refusal, STEP_LIMIT};
 
 use crate::lent::Given;
 
-/// The answers to these requests, from 0 on.
+/// The answers to these requests; the last is for text alone.
 pub const ANSWERS: &[&str] = &[
     "done",
     "malformed",
@@ -21,8 +22,18 @@ pub const ANSWERS: &[&str] = &[
     "33 rows",
     "length 0",
     "lent",
+    "outside",
     "too long",
 ];
+
+/// The answer's place among them.
+pub fn column(number: u32) -> usize {
+    match number {
+        13 => 10,
+        10 => 11,
+        _ => number as usize,
+    }
+}
 
 /// The longest code.
 pub const CODE: usize = 20;
@@ -71,6 +82,7 @@ impl<R: Request> Instructions<'_, R> {
         self.leaning("leaning to ambiguous", 1_500, Leaning::Ambiguous);
         self.larger();
         self.row_counts();
+        self.operators();
         self.well_formed();
         self.broken_rules();
         self.changed("records changed", change_records);
@@ -78,30 +90,36 @@ impl<R: Request> Instructions<'_, R> {
         self.changed("inserted or removed", insert_or_remove);
     }
 
-    fn one(&mut self, description: &[u8], context: u32, code: &[u8], lent: usize) -> (u32, usize) {
-        let given = Given {
+    /// What a request is made about, at some address.
+    fn given<'b>(&mut self, description: &'b [u8], context: u32, code: &'b [u8]) -> Given<'b> {
+        Given {
             kind: self.kind,
             description,
             context,
+            address: address(self.rng),
             code,
-        };
-        self.request.one(&given, lent)
+        }
     }
 
     /// Decodes with enough lent, then with about as much as needed.
     pub fn lent(&mut self, description: &[u8], context: u32, code: &[u8]) {
+        let given = self.given(description, context, code);
+        self.lent_at(&given);
+    }
+
+    fn lent_at(&mut self, given: &Given) {
         let enough = self.rng.within(R::ENOUGH..=R::ENOUGH + MORE);
-        let (number, needed) = self.one(description, context, code, enough);
+        let (number, needed) = self.request.one(given, enough);
         let any = self.rng.within(0..=R::ENOUGH + MORE);
         if number == 0 {
             let one_less = needed.saturating_sub(1);
             let lent = self
                 .rng
                 .pick(&[needed, needed, one_less, needed + 1, 0, any]);
-            self.one(description, context, code, lent);
+            self.request.one(given, lent);
         } else if self.rng.once_in(8) {
             let lent = self.rng.pick(&[0, 1, 3, 4, any]);
-            self.one(description, context, code, lent);
+            self.request.one(given, lent);
         }
     }
 
@@ -138,19 +156,38 @@ impl<R: Request> Instructions<'_, R> {
         for first in 0..=255 {
             self.lent(&s, 0, &[first]);
             for second in 0..=255 {
-                self.one(&s, 0, &[first, second], 16);
+                let code = [first, second];
+                let given = self.given(&s, 0, &code);
+                self.request.one(&given, 16);
             }
         }
+        self.targets();
         let full_featured = full_featured();
         for _ in 0..200 {
             let (code, context) = self.some_code(&full_featured);
             self.cuts(&bytes(&full_featured), context, &code);
         }
-        let longest = longest();
-        let description = bytes(&longest);
-        for _ in 0..100 {
-            let (code, context) = self.some_code(&longest);
-            self.lent(&description, context, &code);
+        for longest in [longest(), longest_of_all()] {
+            let description = bytes(&longest);
+            for _ in 0..100 {
+                let (code, context) = self.some_code(&longest);
+                self.lent(&description, context, &code);
+            }
+        }
+    }
+
+    /// Every displacement at every address where something may change.
+    fn targets(&mut self) {
+        let description = bytes(&target());
+        for address in EDGE_ADDRESSES {
+            for displacement in 0..=255 {
+                let code = [0x25, displacement];
+                let given = Given {
+                    address,
+                    ..self.given(&description, 0, &code)
+                };
+                self.lent_at(&given);
+            }
         }
     }
 
@@ -194,13 +231,30 @@ impl<R: Request> Instructions<'_, R> {
                 true => Err(Refusal::TooManyRows),
                 false => Ok(rows),
             };
-            let decoded = reference::decode(&d, context, &code);
+            let decoded = reference::decode(&d, context, 0, &code);
             assert_eq!(decoded.map(|rows| rows.len()), known, "the reference");
             self.lent(&description, context, &code);
             self.cuts(&description, context, &code);
+            self.kind = "the same, computed";
+            let mut computed = d.clone();
+            compute_some(self.rng, &mut computed);
+            self.lent(&bytes(&computed), context, &code);
             self.kind = "the same, moved";
             self.move_operands(&mut d);
             self.cuts(&bytes(&d), context, &code);
+        }
+    }
+
+    /// Expressions of every length, at addresses where something may change.
+    fn operators(&mut self) {
+        self.kind = "expressions";
+        for i in 0..4_000 {
+            let some = some_expression(self.rng, &[1], 1 + i % STEP_LIMIT);
+            let mut d = target();
+            d.expressions = vec![some];
+            let any = self.rng.byte();
+            let displacement = self.rng.pick(&[0, 1, 0x7f, 0x80, 0xff, any]);
+            self.lent(&bytes(&d), 0, &[0x25, displacement]);
         }
     }
 
@@ -208,7 +262,8 @@ impl<R: Request> Instructions<'_, R> {
         for operand in &mut d.operands {
             let moves = match operand.kind {
                 Operand::TABLE => true,
-                _ => !d.fields[usize::from(operand.index)].is_context(),
+                Operand::FIELD => !d.fields[usize::from(operand.index)].is_context(),
+                _ => false,
             };
             if moves && self.rng.once_in(8) {
                 operand.offset = self.rng.byte_within(0..=15);

@@ -1,10 +1,10 @@
 //! Listing code from a place on as lines of text, in one part or several.
 
 use dookerand::{Listing, LINE};
-use generate::example::{description_s, full_featured};
+use generate::example::{description_s, full_featured, target};
 use generate::{
-    bytes, change_bytes, change_records, code, context, decodable, insert_or_remove, longest,
-    planted_stream, well_formed, with_rows, with_text, Leaning, Rng, Size,
+    address, bytes, change_bytes, change_records, code, context, decodable, insert_or_remove,
+    longest, longest_of_all, planted_stream, well_formed, with_rows, with_text, Leaning, Rng, Size,
 };
 use reference::{requests, Description};
 
@@ -85,25 +85,16 @@ struct Part {
 }
 
 impl Lists<'_> {
-    fn given<'b>(&self, description: &'b [u8], context: u32, code: &'b [u8]) -> Given<'b> {
-        Given {
-            kind: self.kind,
-            description,
-            context,
-            code,
-        }
-    }
-
     /// Compares one call, if the description is well formed with what it gave.
     fn one(&mut self, given: &Given, from: u64, lent: usize) -> Option<Part> {
         let (number, values, mut text) = agreed_with_lent(
             given,
             lent,
-            |description, context, code, text| {
-                requests::list(description, context, code, from, text)
+            |description, context, address, code, text| {
+                requests::list(description, context, address, code, from, text)
             },
-            |description, context, code, text| {
-                dookerand::list_answer(description, context, code, from, text)
+            |description, context, address, code, text| {
+                dookerand::list_answer(description, context, address, code, from, text)
             },
         );
         let listing = Listing::from(dookerand::Answer { number, values });
@@ -130,7 +121,13 @@ impl Lists<'_> {
     /// Lists with more than enough room, with other rooms, from other places
     /// and in parts.
     fn all(&mut self, description: &[u8], context: u32, code: &[u8]) {
-        let given = self.given(description, context, code);
+        let given = Given {
+            kind: self.kind,
+            description,
+            context,
+            address: address(self.rng),
+            code,
+        };
         let lent = LINE * code.len() + self.rng.below(MORE);
         let Some(whole) = self.one(&given, 0, lent) else {
             for lent in [0, 1, LINE] {
@@ -241,6 +238,8 @@ impl Lists<'_> {
         self.list(&description_s(), 300);
         self.list(&full_featured(), 100);
         self.list(&longest(), 3);
+        self.list(&longest_of_all(), 3);
+        self.list(&target(), 60);
     }
 
     fn leaning(&mut self, kind: &'static str, descriptions: usize, leaning: Leaning) {

@@ -36,13 +36,14 @@ const SHORT_LINE: usize = 3;
 /// lines of each sort.
 const LEAST: usize = 10;
 
-const SECTIONS: [&str; 6] = [
+const SECTIONS: [&str; 7] = [
     "section 1",
     "section 2",
     "section 3",
     "section 4",
     "section 5",
     "section 6",
+    "section 7",
 ];
 
 /// The most code that is listed, and the most bytes that the program reads.
@@ -359,7 +360,7 @@ pub fn sort_of_line(line: &str) -> usize {
 
 /// A description with its length before it and code behind it.
 fn input(description: &[u8], code: &[u8]) -> Vec<u8> {
-    let length = u16::try_from(description.len()).expect("no description is longer");
+    let length = u16::try_from(description.len()).expect("a longer one can't be listed");
     [&length.to_le_bytes(), description, code].concat()
 }
 

@@ -1,9 +1,9 @@
 //! Sweeping a code buffer.
 
-use generate::example::{description_s, full_featured};
+use generate::example::{description_s, full_featured, target};
 use generate::{
-    bytes, change_bytes, change_records, code, context, decodable, insert_or_remove, longest,
-    planted_stream, well_formed, with_rows, with_text, Leaning, Rng, Size,
+    address, bytes, change_bytes, change_records, code, context, decodable, insert_or_remove,
+    longest, longest_of_all, planted_stream, well_formed, with_rows, with_text, Leaning, Rng, Size,
 };
 use reference::{requests, Description};
 
@@ -16,8 +16,8 @@ const USED: u64 = 0;
 const FULL: u64 = 1;
 const MALFORMED: usize = 3;
 
-/// The answers that rows have: done, and 3 to 8.
-const ROWS: [&str; 7] = [
+/// The answers that rows have: done, 3 to 8, and 13.
+const ROWS: [&str; 8] = [
     "done",
     "no match",
     "ambiguous",
@@ -25,7 +25,9 @@ const ROWS: [&str; 7] = [
     "too far",
     "33 rows",
     "length 0",
+    "outside",
 ];
+const OUTSIDE: i64 = 13;
 
 /// Where two ends meet, the first of them is given.
 const MEETING: [&str; 2] = ["used and full", "full and short"];
@@ -75,29 +77,21 @@ struct Sweeping<'a> {
 impl Sweeping<'_> {
     /// Compares one sweep with room for so many rows and at times a rest. Gives
     /// the end and the rows written, if the description is well formed.
-    fn one(
-        &mut self,
-        description: &[u8],
-        context: u32,
-        code: &[u8],
-        room: usize,
-    ) -> Option<[u64; 2]> {
+    fn one(&mut self, given: &Given, room: usize) -> Option<[u64; 2]> {
         let lent = ROW_NUMBERS * room + self.rng.below(ROW_NUMBERS);
-        let given = Given {
-            kind: self.kind,
-            description,
-            context,
-            code,
-        };
         let (number, [end, written, ..], rows) =
-            agreed_with_lent(&given, lent, requests::sweep, dookerand::sweep);
+            agreed_with_lent(given, lent, requests::sweep, dookerand::sweep);
         if number != 0 {
             self.tally.count(self.kind, MALFORMED);
             return None;
         }
         self.tally.count(self.kind, end as usize);
         for row in rows.chunks(ROW_NUMBERS).take(written as usize) {
-            self.rows[(row[2] as usize).saturating_sub(2)] += 1;
+            let answer = match row[2] {
+                OUTSIDE => ROWS.len() - 1,
+                number => (number as usize).saturating_sub(2),
+            };
+            self.rows[answer] += 1;
         }
         Some([end, written])
     }
@@ -105,12 +99,19 @@ impl Sweeping<'_> {
     /// Sweeps with room for a row at each byte, then with about as much as
     /// needed.
     fn rooms(&mut self, description: &[u8], context: u32, code: &[u8]) {
+        let given = Given {
+            kind: self.kind,
+            description,
+            context,
+            address: address(self.rng),
+            code,
+        };
         let enough = code.len() + self.rng.below(2);
-        let Some([end, rows]) = self.one(description, context, code, enough) else {
+        let Some([end, rows]) = self.one(&given, enough) else {
             return;
         };
         let rows = rows as usize;
-        let tight = self.one(description, context, code, rows);
+        let tight = self.one(&given, rows);
         let expected = if end == USED { USED } else { FULL };
         assert_eq!(tight, Some([expected, rows as u64]), "the reference");
         self.meeting[usize::from(end != USED)] += 1;
@@ -118,7 +119,7 @@ impl Sweeping<'_> {
         let room = self
             .rng
             .pick(&[rows.saturating_sub(1), rows + 1, less, less]);
-        self.one(description, context, code, room);
+        self.one(&given, room);
     }
 
     /// Code that matches some constructors, and a context.
@@ -148,6 +149,8 @@ impl Sweeping<'_> {
         self.kind = "fixed descriptions";
         self.sweep(&full_featured(), 300);
         self.sweep(&longest(), 10);
+        self.sweep(&longest_of_all(), 10);
+        self.sweep(&target(), 100);
         let s = description_s();
         self.sweep(&s, 1_000);
         let (code, context) = planted_stream(self.rng, &s, 80_000);

@@ -6,12 +6,12 @@ use reference::{
     Refusal,
 };
 
-use crate::instructions::{Instructions, Request, ANSWERS, CODE};
+use crate::instructions::{column, Instructions, Request, ANSWERS, CODE};
 use crate::lent::{agreed_with_lent, Given};
 use crate::tally::{print_counts, Tally};
 
 /// What texts may have.
-const FEATURES: [&str; 13] = [
+const FEATURES: [&str; 15] = [
     "unsigned decimal",
     "signed decimal",
     "decimal below 0",
@@ -19,6 +19,8 @@ const FEATURES: [&str; 13] = [
     "signed hex",
     "hex below 0",
     "a name",
+    "a computed value",
+    "one below 0",
     "an inner constructor",
     "another order",
     "an invisible operand",
@@ -32,6 +34,9 @@ const LEAST: usize = 500;
 
 /// The longest text that is written.
 const LIMIT: usize = 256;
+
+/// Stands for the look of a computed operand.
+const COMPUTED: u8 = 255;
 
 /// Compares decoding to text on what decoding to rows is compared on, and on
 /// texts about as long as may be.
@@ -67,7 +72,7 @@ fn lengths(instructions: &mut Instructions<Text>) {
             true => Err(Refusal::TextTooLong),
             false => Ok(length),
         };
-        let decoded = decode_text(&d, context, &code);
+        let decoded = decode_text(&d, context, 0, &code);
         assert_eq!(decoded.map(|text| text.len()), known, "the reference");
         instructions.kind = "texts up to the limit";
         for _ in 0..3 {
@@ -96,7 +101,7 @@ impl Request for Text {
 
     fn one(&mut self, given: &Given, lent: usize) -> (u32, usize) {
         let (number, values, _) = agreed_with_lent(given, lent, requests::text, dookerand::text);
-        self.tally.count(given.kind, number as usize);
+        self.tally.count(given.kind, column(number));
         let written = values[0] as usize;
         match number {
             0 => {
@@ -111,7 +116,9 @@ impl Request for Text {
 impl Text {
     fn count_features(&mut self, given: &Given, written: usize) {
         let d = check(given.description).expect("a text is shown");
-        let decoded = decode_instruction(&d, given.context, given.code).expect("a text is shown");
+        let address = given.address.into();
+        let decoded = decode_instruction(&d, given.context, address, given.code);
+        let decoded = decoded.expect("a text is shown");
         let mut shown = Shown::default();
         shown.add(&d, &decoded);
         let any = |look: u8, below_0: bool| {
@@ -126,6 +133,8 @@ impl Text {
             any(Field::SIGNED_HEX, false),
             any(Field::SIGNED_HEX, true),
             any(Field::NAMES, false),
+            any(COMPUTED, false),
+            any(COMPUTED, true),
             shown.inner,
             shown.another_order,
             shown.invisible,
@@ -142,7 +151,7 @@ impl Text {
 /// What a text shows.
 #[derive(Default)]
 struct Shown {
-    /// Looks and values of fields.
+    /// Looks and values of fields and computed operands.
     values: Vec<(u8, i64)>,
     /// A constructor inside another.
     inner: bool,
@@ -164,6 +173,7 @@ impl Shown {
                 &Part::Field { field, value, .. } => {
                     self.values.push((d.fields[field].look, value));
                 }
+                &Part::Computed { value, .. } => self.values.push((COMPUTED, value)),
                 Part::Constructor(inner) => {
                     self.inner = true;
                     self.add(d, inner);

@@ -3,7 +3,11 @@
 use dookerand::{check, decode, list, sweep, text, Answer, Listing};
 use generate::bytes;
 use generate::example::{branch, expression, operand, step, target};
-use reference::Step;
+
+/// Kinds of steps.
+const CONSTANT: u8 = 0;
+const ADDRESS: u8 = 2;
+const SHIFT_LEFT: u8 = 10;
 
 /// Two branches, the second back to itself, and a byte that is none.
 const CODE: [u8; 5] = [0x25, 0x7f, 0x25, 0xff, 0x30];
@@ -17,10 +21,7 @@ fn answer(number: u32, values: [u64; 4]) -> Answer {
 
 /// The address moved left by 32 bits, which fits below 2^31.
 fn moved() -> Vec<u8> {
-    bytes(&branch(&[
-        step(Step::ADDRESS, 0),
-        step(Step::SHIFT_LEFT, 32),
-    ]))
+    bytes(&branch(&[step(ADDRESS, 0), step(SHIFT_LEFT, 32)]))
 }
 
 /// The rows, of which nothing is written for a refusal.
@@ -72,7 +73,7 @@ fn texts() {
     };
     assert_eq!(shown(&bytes(&target()), 0), "0x100");
     assert_eq!(shown(&bytes(&target()), u32::MAX), "0x1000000ff");
-    let least = branch(&[step(Step::CONSTANT, i64::MIN)]);
+    let least = branch(&[step(CONSTANT, i64::MIN)]);
     assert_eq!(shown(&bytes(&least), 0), "-0x8000000000000000");
     let mut lent = [b'~'; MOST];
     let refused = text(&moved(), 0, 1 << 31, &CODE, &mut lent);

@@ -55,7 +55,8 @@ static void call_each(size_t length)
     print("tree", dookerand_tree(description, length, 0, tree, sizeof tree, values), values);
     print("decode", dookerand_decode(description, length, 0, address, code, sizeof code, rows, 20, values), values);
     print_rows(rows, 20);
-    print("text", dookerand_text(description, length, 0, address, code, sizeof code, text, sizeof text, values), values);
+    print("text", dookerand_text(description, length, 0, address, code, sizeof code, text, sizeof text, values),
+          values);
     printf("%.16s\n", (const char *) text);
     print("sweep", dookerand_sweep(description, length, 0, address, code, sizeof code, rows, 20, values), values);
     print_rows(rows, 20);

@@ -35,13 +35,13 @@ print-text-requires c κs =
     let decodes = earlier .decode-at .ensures in
     let done = c .before .before .before .before .walked2 .given .1 in (
       told-fixed _ _ formed _ fills (start .args .code .now) _ (decodes .1),
-      (sound-rows _ _ formed _ fills _ _ _ (decodes .0) _ _ done _ (decodes .1), some-rows _ _ formed _ fills _ _ _ (decodes .0) _ _ done),
+      (sound-rows _ _ formed _ fills _ _ _ _ (decodes .0) _ _ done _ (decodes .1), some-rows _ _ formed _ fills _ _ _ _ (decodes .0) _ _ done),
     )
 
 -- the answer and the lent bytes, by what the function was handed
 abbrev AnswersAt : tie.Start → List ℕ → Texted → Type 0
 AnswersAt start new r =
-    Answers (description (start .args .desc .now) (start .args .layout)) (start .args .context) (start .args .code .now) (start .args .out .now) new r
+    Answers (description (start .args .desc .now) (start .args .layout)) (start .args .context) (start .args .address) (start .args .code .now) (start .args .out .now) new r
 
 -- the text is printed
 printed : (c : tie.After-print-text) → AnswersAt (c .before .before .before .before .before .before .before .before .before .before .before .before .before .before) (c .print-text .last .1 .1 .1 .1 .0) (lineAnswer (c .print-text .result))
@@ -52,7 +52,7 @@ printed c =
     let decodes = earlier .decode-at .ensures in
     let done = c .before .before .before .before .before .walked2 .given .1 in
     let prints = c .print-text .ensures in
-    line-answers _ _ formed _ fills _ _ _ (decodes .0) _ _ done _ (decodes .1) _ _ _ (prints .0) (prints .1)
+    line-answers _ _ formed _ fills _ _ _ _ (decodes .0) _ _ done _ (decodes .1) _ _ _ (prints .0) (prints .1)
 
 enum-known-line : tie.Need-enum-known-line
 enum-known-line c = search needs
@@ -69,7 +69,7 @@ returns c =
     let start = earlier .before .before .before .before .before .before in
     let fills = earlier .before .before .fill .ensures in
     let decodes = earlier .decode-at .ensures in
-    refusal-answers _ _ (start .pre) _ fills _ _ _ (decodes .0) (start .args .out .now) _ (c .before .walked .given .1)
+    refusal-answers _ _ (start .pre) _ fills _ _ _ _ (decodes .0) (start .args .out .now) _ (c .before .walked .given .1)
 
 same-length : tie.Need-same-length
 same-length c = search needs
