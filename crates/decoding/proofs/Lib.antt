@@ -2,3 +2,6 @@
 pub mod Numbers
 mod Answers
 pub mod Facts
+pub mod Addresses
+pub mod Counts
+pub mod Signed

@@ -167,15 +167,16 @@ pub extern "C" fn dookerand_tree(desc: &[u8], table: u32, tree: &[u8], values: &
 pub extern "C" fn dookerand_decode(
     desc: &[u8],
     context: u32,
+    address: u32,
     code: &[u8],
     rows: &mut [i64],
     values: &mut [u64; 4],
 ) -> u32
-    ensures { λ r. ⌜ r ≡ decoding.numberOf (decodeOf (now (desc .entry)) context (now (code .entry)) (length (now (rows .entry)))) ⌝ }
-    ensures { λ _. ⌜ now (values .exit) ≡ decoding.valuesOf (decodeOf (now (desc .entry)) context (now (code .entry)) (length (now (rows .entry)))) ⌝ }
-    ensures { λ _. ⌜ now (rows .exit) ≡ rowsAfter (now (desc .entry)) context (now (code .entry)) (now (rows .entry)) ⌝ }
+    ensures { λ r. ⌜ r ≡ decoding.numberOf (decodeOf (now (desc .entry)) context address (now (code .entry)) (length (now (rows .entry)))) ⌝ }
+    ensures { λ _. ⌜ now (values .exit) ≡ decoding.valuesOf (decodeOf (now (desc .entry)) context address (now (code .entry)) (length (now (rows .entry)))) ⌝ }
+    ensures { λ _. ⌜ now (rows .exit) ≡ rowsAfter (now (desc .entry)) context address (now (code .entry)) (now (rows .entry)) ⌝ }
 {
-    let decoded = decoding::decode(desc, context, code, rows);
+    let decoded = decoding::decode(desc, context, address, code, rows);
     match decoded {
         Decoded::Done(written) => {
             *values = [written as u64, 0, 0, 0];
@@ -194,15 +195,16 @@ pub extern "C" fn dookerand_decode(
 pub extern "C" fn dookerand_text(
     desc: &[u8],
     context: u32,
+    address: u32,
     code: &[u8],
     text: &mut [u8],
     values: &mut [u64; 4],
 ) -> u32
-    ensures { λ r. ⌜ r ≡ texting.numberOf (decodeTextOf (now (desc .entry)) context (now (code .entry)) (length (now (text .entry)))) ⌝ }
-    ensures { λ _. ⌜ now (values .exit) ≡ texting.valuesOf (decodeTextOf (now (desc .entry)) context (now (code .entry)) (length (now (text .entry)))) ⌝ }
-    ensures { λ _. ⌜ now (text .exit) ≡ textAfter (now (desc .entry)) context (now (code .entry)) (now (text .entry)) ⌝ }
+    ensures { λ r. ⌜ r ≡ texting.numberOf (decodeTextOf (now (desc .entry)) context address (now (code .entry)) (length (now (text .entry)))) ⌝ }
+    ensures { λ _. ⌜ now (values .exit) ≡ texting.valuesOf (decodeTextOf (now (desc .entry)) context address (now (code .entry)) (length (now (text .entry)))) ⌝ }
+    ensures { λ _. ⌜ now (text .exit) ≡ textAfter (now (desc .entry)) context address (now (code .entry)) (now (text .entry)) ⌝ }
 {
-    let texted = text_decoding::decode_text(desc, context, code, text);
+    let texted = text_decoding::decode_text(desc, context, address, code, text);
     match texted {
         Texted::Done(written) => {
             *values = [written as u64, 0, 0, 0];
@@ -235,15 +237,16 @@ fn end_number(why: End) -> u64
 pub extern "C" fn dookerand_sweep(
     desc: &[u8],
     context: u32,
+    address: u32,
     code: &[u8],
     rows: &mut [i64],
     values: &mut [u64; 4],
 ) -> u32
-    ensures { λ r. ⌜ r ≡ sweeping.numberOf (sweepOf (now (desc .entry)) context (now (code .entry)) (length (now (rows .entry)))) ⌝ }
-    ensures { λ _. ⌜ now (values .exit) ≡ sweeping.valuesOf (sweepOf (now (desc .entry)) context (now (code .entry)) (length (now (rows .entry)))) ⌝ }
-    ensures { λ _. ⌜ now (rows .exit) ≡ bufferAfter (now (desc .entry)) context (now (code .entry)) (now (rows .entry)) ⌝ }
+    ensures { λ r. ⌜ r ≡ sweeping.numberOf (sweepOf (now (desc .entry)) context address (now (code .entry)) (length (now (rows .entry)))) ⌝ }
+    ensures { λ _. ⌜ now (values .exit) ≡ sweeping.valuesOf (sweepOf (now (desc .entry)) context address (now (code .entry)) (length (now (rows .entry)))) ⌝ }
+    ensures { λ _. ⌜ now (rows .exit) ≡ bufferAfter (now (desc .entry)) context address (now (code .entry)) (now (rows .entry)) ⌝ }
 {
-    let swept = sweep::sweep(desc, context, code, rows);
+    let swept = sweep::sweep(desc, context, address, code, rows);
     match swept {
         Swept::Ended {
             why,
@@ -270,16 +273,17 @@ fn full_number(full: bool) -> u64
 pub extern "C" fn dookerand_list(
     desc: &[u8],
     context: u32,
+    address: u32,
     code: &[u8],
     from: u64,
     text: &mut [u8],
     values: &mut [u64; 4],
 ) -> u32
-    ensures { λ r. ⌜ r ≡ listing.numberOf (listOf (now (desc .entry)) context (now (code .entry)) from (length (now (text .entry)))) ⌝ }
-    ensures { λ _. ⌜ now (values .exit) ≡ listing.valuesOf (listOf (now (desc .entry)) context (now (code .entry)) from (length (now (text .entry)))) ⌝ }
-    ensures { λ _. ⌜ now (text .exit) ≡ listAfter (now (desc .entry)) context (now (code .entry)) from (now (text .entry)) ⌝ }
+    ensures { λ r. ⌜ r ≡ listing.numberOf (listOf (now (desc .entry)) context address (now (code .entry)) from (length (now (text .entry)))) ⌝ }
+    ensures { λ _. ⌜ now (values .exit) ≡ listing.valuesOf (listOf (now (desc .entry)) context address (now (code .entry)) from (length (now (text .entry)))) ⌝ }
+    ensures { λ _. ⌜ now (text .exit) ≡ listAfter (now (desc .entry)) context address (now (code .entry)) from (now (text .entry)) ⌝ }
 {
-    let listed = listing_text::list(desc, context, code, from as usize, text);
+    let listed = listing_text::list(desc, context, address, code, from as usize, text);
     match listed {
         Listed::Done(part) => {
             let full = full_number(part.full);

@@ -1,25 +1,25 @@
 -- Bytes put one behind the other over a part.
-use Prim.Native.Nat.{ℕ, _+_, _-_, _≤_, _<_, min}
+use Prim.Native.Nat.{ℕ, _+_, _-_, _^_, _≤_, _<_, min}
 use mathlib.Core.Bool.{Bool, true, false, cond}
 use mathlib.Core.List.{List, [], _∷_, _++_, append-assoc}
 use mathlib.Core.Path.{_≡_, refl, sym, ap, _∙_}
 use native.Mathlib.Decide.{decLt}
 use native.Mathlib.Omega.{arith}
-use borrow.Author.Tests.{le-leb, leb-true}
-use lib.Dec.{leb}
+use borrow.Author.Tests.{le-leb, leb-true, lt-ltb, le-ltb}
+use lib.Dec.{leb, ltb}
 use lib.ListN.{length, take, drop, length-append, length-drop, drop-of-length-le}
 use lib.Seq.{take-all, take-at, take-nil, drop-append-add, drop-drop, length-take-le}
 use Rattle.format.specs.Numbers.{longestText}
 use Rattle.printing.specs.Writing.{Puts, over}
-use Rattle.printing.specs.Numerals.{digitsOf}
+use Rattle.printing.specs.Numerals.{digitsUpTo, digitsOf}
 use Rattle.printing.specs.declared.Printed.{Printed}
 use Rattle.printing.specs.declared.Printed.the-variants.{Wrote, Full}
-use Rattle.printing.proofs.Numerals.{digits-length}
+use Rattle.printing.proofs.Numerals.{up-to-length, digits-length, hex-digits}
 use Rattle.printing.proofs.Writing.{part-over, over-take, puts-wrote, puts-full}
 use Rattle.text.specs.Lines.{lineOf, lentAfter}
 use Rattle.text.specs.declared.Line.{Line}
 use Rattle.text.specs.declared.Line.the-variants.{Written, TextTooLong, NoRoom}
-use Rattle.listing_lines.specs.Line.{hexDigits, byteText, longWord, fitting}
+use Rattle.listing_lines.specs.Line.{hexDigits, addressText, byteText, longWord, fitting}
 use Rattle.listing_lines.specs.Put.{Put, Appended}
 
 -- bytes put behind others
@@ -55,9 +55,26 @@ put-more v w l m m′ n n′ p h e =
       holds = e .holds ∙ ap (λ (x : List ℕ). over (take n x ++ w) x) (p .holds) ∙ over-over v w l n (p .size);
     }
 
-pub address-long : (at : ℕ) → length (hexDigits 8 at ++ (58 ∷ 32 ∷ [])) ≡ 10
+pub eight-long : (n : ℕ) → length (hexDigits 8 n) ≡ 8
 unfolding hexDigits
-address-long at = refl
+eight-long n = refl
+
+pub address-long : (n : ℕ) → length (addressText n) ≤ 16
+unfolding addressText
+address-long n = go (ltb n (16 ^ 8))
+  where
+    go : (b : Bool) → length (cond b (hexDigits 8 n) (digitsUpTo 16 16 n)) ≤ 16
+    go true = omega (arith, eight-long n)
+    go false = up-to-length 16 16 n
+
+-- the digits that the code puts are the address's
+pub address-few : (n : ℕ) → n < 16 ^ 8 → addressText n ≡ hexDigits 8 n
+unfolding addressText
+address-few n h = rw (lt-ltb n (16 ^ 8) h)
+
+pub address-many : (n : ℕ) → 16 ^ 8 ≤ n → n < 2 ^ 64 → addressText n ≡ digitsOf 16 n
+unfolding addressText
+address-many n h l = rw (le-ltb n (16 ^ 8) h) (sym (hex-digits n l))
 
 pub byte-long : (byte : ℕ) → length (byteText byte) ≡ 10
 unfolding byteText hexDigits
@@ -108,16 +125,16 @@ pub put-taken : (w before after : List ℕ) (n : ℕ) → Put w before after n �
 unfolding over
 put-taken w before after n p = rw (p .holds) (take-at w (drop (length w) before) n (sym (p .size)))
 
--- a decimal number put behind a place, with room enough
-module _ (at n : ℕ) (before mid part : List ℕ) (r : Printed) (h : at + 20 ≤ length before) (e : part ≡ take (length before - at) (drop at before))
-    (p : Puts (digitsOf 10 n) part mid r) where
-  pub number-put : take at before ++ (mid ++ drop (length before - at) (drop at before)) ≡ over (take at before ++ digitsOf 10 n) before
-  number-put = part-put at (digitsOf 10 n) before mid part r (omega (arith, digits-length 10 n)) e p
+-- a number put behind a place, with room enough
+module _ (at base n : ℕ) (before mid part : List ℕ) (r : Printed) (h : at + 20 ≤ length before) (e : part ≡ take (length before - at) (drop at before))
+    (p : Puts (digitsOf base n) part mid r) where
+  pub number-put : take at before ++ (mid ++ drop (length before - at) (drop at before)) ≡ over (take at before ++ digitsOf base n) before
+  number-put = part-put at (digitsOf base n) before mid part r (omega (arith, digits-length base n)) e p
 
-  pub number-count : (k : ℕ) → r ≡ Wrote k → k ≡ length (digitsOf 10 n)
+  pub number-count : (k : ℕ) → r ≡ Wrote k → k ≡ length (digitsOf base n)
   number-count k f = puts-wrote p f .count
 
   pub number-fits : r ≡ Full → ⊥
   number-fits f =
       let long : length part ≡ length before - at = rw e (length-take-le (length before - at) (drop at before) (omega (arith, length-drop at before))) in
-      omega (arith, puts-full p f .0, digits-length 10 n)
+      omega (arith, puts-full p f .0, digits-length base n)

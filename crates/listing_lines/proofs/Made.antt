@@ -18,12 +18,12 @@ same-line b b′ s s′ n n′ p q r = rw (p, q, r)
 same-fault : (b b′ : List ℕ) (s s′ : ℕ) → b ≡ b′ → s ≡ s′ → _≡_ {A = FaultLine} (record { bytes = b; size = s }) (record { bytes = b′; size = s′ })
 same-fault b b′ s s′ p q = rw (p, q)
 
-pub line-made : (d : Description) (c : ℕ) (s : List ℕ) (at : ℕ) (shown bytes : List ℕ) (n next : ℕ) → shown ≡ shownAt d c s at
-    → Put (lineText at shown) (replicate lineBytes 0) bytes n → next ≡ nextAt d c s at
-    → record { bytes = bytes; size = n; next = next } ≡ listingLine d c s at
+pub line-made : (d : Description) (c address : ℕ) (s : List ℕ) (at : ℕ) (shown bytes : List ℕ) (n next : ℕ) → shown ≡ shownAt d c address s at
+    → Put (lineText (address + at) shown) (replicate lineBytes 0) bytes n → next ≡ nextAt d c address s at
+    → record { bytes = bytes; size = n; next = next } ≡ listingLine d c address s at
 unfolding listingLine lineAt
-line-made d c s at shown bytes n next e p f =
-    let q : Put (lineText at (shownAt d c s at)) (replicate lineBytes 0) bytes n = rw e at p in
+line-made d c address s at shown bytes n next e p f =
+    let q : Put (lineText (address + at) (shownAt d c address s at)) (replicate lineBytes 0) bytes n = rw e at p in
     same-line _ _ _ _ _ _ (q .holds) (q .size) f
 
 pub fault-made : (x : Rejection) (first second : ℕ) (bytes : List ℕ) (n : ℕ) → first ≡ firstValue x → second ≡ secondValue x

@@ -1,18 +1,19 @@
 -- One line of a listing, as a list of bytes.
-use Prim.Native.Nat.{ℕ, zero, suc, _+_, _/_, _%_}
+use Prim.Native.Nat.{ℕ, zero, suc, _+_, _/_, _%_, _^_}
 use mathlib.Core.Bool.{cond}
 use mathlib.Core.List.{List, [], _∷_, _++_}
-use lib.Dec.{leb}
+use lib.Dec.{leb, ltb}
 use lib.ListN.{length, getD, drop, replicate}
 use Rattle.format.specs.Numbers.{longestText}
 use Rattle.format.specs.Description.{Description}
 use Rattle.acceptance.specs.Acceptance.{firstValue, secondValue}
 use Rattle.acceptance.specs.declared.Rejection.{Rejection}
-use Rattle.printing.specs.Numerals.{digitOf, digitsOf}
+use Rattle.printing.specs.Numerals.{digitOf, digitsUpTo, digitsOf}
 use Rattle.printing.specs.Writing.{over}
 use Rattle.decoding_spec.specs.Refusals.{isShort}
 use Rattle.decoding_spec.specs.Tree.{Node}
-use Rattle.decoding_spec.specs.Walk.{Result, done, refused, instructionOf}
+use Rattle.decoding_spec.specs.Walk.{Result, done, refused}
+use Rattle.decoding_spec.specs.Instruction.{instructionOf}
 use Rattle.decoding_spec.specs.declared.Refusal.{Refusal}
 use Rattle.text.specs.Text.{textOf}
 use Rattle.listing_lines.specs.declared.ListingLine.{ListingLine}
@@ -59,19 +60,23 @@ abbrev pub nextBy : ℕ → ℕ → Result Node → ℕ
 nextBy at end (done n l st) = at + l
 nextBy at end (refused r) = refusedNext at end r
 
--- what is shown at a place of the code s, in the context c, and the next place
-unfoldable pub shownAt : Description → ℕ → List ℕ → ℕ → List ℕ
-shownAt d c s at = shownBy d (getD s at 0) (instructionOf d c (drop at s))
+-- what is shown at a place of the code s, whose byte 0 has this address, in the context c, and the next place
+unfoldable pub shownAt : Description → (c address : ℕ) → List ℕ → ℕ → List ℕ
+shownAt d c address s at = shownBy d (getD s at 0) (instructionOf d c (address + at) (drop at s))
 
-unfoldable pub nextAt : Description → ℕ → List ℕ → ℕ → ℕ
-nextAt d c s at = nextBy at (length s) (instructionOf d c (drop at s))
+unfoldable pub nextAt : Description → (c address : ℕ) → List ℕ → ℕ → ℕ
+nextAt d c address s at = nextBy at (length s) (instructionOf d c (address + at) (drop at s))
 
--- the address as eight digits, a colon and a blank; what is shown; the line's end
+-- an address as eight digits; "no address wraps": as many as it has, 16 at most, where eight are too few
+unfoldable pub addressText : ℕ → List ℕ
+addressText n = cond (ltb n (16 ^ 8)) (hexDigits 8 n) (digitsUpTo 16 16 n)
+
+-- the address, a colon and a blank; what is shown; the line's end
 unfoldable pub lineText : ℕ → List ℕ → List ℕ
-lineText at shown = hexDigits 8 at ++ (58 ∷ 32 ∷ []) ++ shown ++ (10 ∷ [])
+lineText here shown = addressText here ++ (58 ∷ 32 ∷ []) ++ shown ++ (10 ∷ [])
 
-unfoldable pub lineAt : Description → ℕ → List ℕ → ℕ → List ℕ
-lineAt d c s at = lineText at (shownAt d c s at)
+unfoldable pub lineAt : Description → (c address : ℕ) → List ℕ → ℕ → List ℕ
+lineAt d c address s at = lineText (address + at) (shownAt d c address s at)
 
 -- "A bad description prints one line, as "malformed 6 65535"."
 unfoldable pub malformedText : (section number : ℕ) → List ℕ
@@ -80,14 +85,18 @@ malformedText section number = malformedWord ++ digitsOf 10 section ++ (32 ∷ [
 abbrev pub faultText : Rejection → List ℕ
 faultText x = malformedText (firstValue x) (secondValue x)
 
--- room for the longest line: eight digits, a colon and a blank, a text, the line's end
+-- room for the longest line: an address, a colon and a blank, a text, the line's end
 abbrev pub lineBytes : ℕ
-lineBytes = 8 + 2 + longestText + 1
+lineBytes = 16 + 2 + longestText + 1
 
 -- a line in a buffer of its own, with zeros behind it, and the next place
-unfoldable pub listingLine : Description → ℕ → List ℕ → ℕ → ListingLine
-listingLine d c s at =
-    record { bytes = over (lineAt d c s at) (replicate lineBytes 0); size = length (lineAt d c s at); next = nextAt d c s at }
+unfoldable pub listingLine : Description → (c address : ℕ) → List ℕ → ℕ → ListingLine
+listingLine d c address s at =
+    record {
+      bytes = over (lineAt d c address s at) (replicate lineBytes 0);
+      size = length (lineAt d c address s at);
+      next = nextAt d c address s at;
+    }
 
 unfoldable pub faultLine : Rejection → FaultLine
 faultLine x = record { bytes = over (faultText x) (replicate lineBytes 0); size = length (faultText x) }

@@ -28,9 +28,9 @@ pub record PlaceOf (b a s : List ℕ) (at : ℕ) : Type 0 where
   pub inside : at < length s
 
 -- what stands at a place is shown, and the walk was told the length from there on
-pub record Shows (b a s : List ℕ) (c at : ℕ) (old : List ℕ) (r : Shown) (new a′ : List ℕ) : Type 0 where
-  pub text : Put (shownAt (described b a) c s at) old new (r .size)
-  pub next : r .next ≡ nextAt (described b a) c s at
+pub record Shows (b a s : List ℕ) (c address at : ℕ) (old : List ℕ) (r : Shown) (new a′ : List ℕ) : Type 0 where
+  pub text : Put (shownAt (described b a) c address s at) old new (r .size)
+  pub next : r .next ≡ nextAt (described b a) c address s at
   pub told : a′ ≡ toldLength a s at
 
 -- the text of the rows, or ".long"

@@ -5,7 +5,7 @@ use printing::Printed;
 use setting::FIXED;
 use text::Line;
 use walking::Walked;
-ghost use mathlib.Core.List.{[], _∷_, _++_};
+ghost use mathlib.Core.Logic.{_⊎_};
 ghost use mathlib.Core.Path.{_≡_};
 ghost use Prim.Native.Nat.{_+_, _%_, _<_, _≤_};
 ghost use lib.ListN.{length};
@@ -15,11 +15,11 @@ ghost use Rattle.setting.specs.Fixed.{Fixed};
 ghost use Rattle.text.specs.Places.{SoundRows};
 ghost use Rattle.text.specs.Prints.{described};
 ghost use Rattle.walking.specs.Walks.{toldLength};
-ghost use Rattle.listing_lines.specs.Line.{hexDigits, byteText, refusedText, refusedNext, lineText, lineBytes, malformedText, listingLine, faultLine};
+ghost use Rattle.listing_lines.specs.Line.{hexDigits, addressText, byteText, refusedText, refusedNext, lineText, lineBytes, malformedText, listingLine, faultLine};
 ghost use Rattle.listing_lines.specs.Put.{Put, Appended, PlaceOf, Shows, ShowsText};
 
 // The bytes of a line at most: the address, a colon, a blank, a text and the line's end.
-pub const LINE: usize = 8 + 2 + format::TEXT + 1;
+pub const LINE: usize = 16 + 2 + format::TEXT + 1;
 
 // A line with zeros behind it, its size, and where the next one stands.
 pub struct ListingLine {
@@ -54,11 +54,11 @@ fn digit(n: usize) -> u8
     printing::digit((n % 16) as u8)
 }
 
-// Eight digits, a colon and a blank.
-fn address(at: usize) -> [u8; 10]
-    ensures { λ r. ⌜ r ≡ hexDigits 8 at ++ (58 ∷ 32 ∷ []) ⌝ }
+// The last eight digits.
+fn eight_digits(n: usize) -> [u8; 8]
+    ensures { λ r. ⌜ r ≡ hexDigits 8 n ⌝ }
 {
-    let a = at / 16;
+    let a = n / 16;
     let b = a / 16;
     let c = b / 16;
     let d = c / 16;
@@ -73,18 +73,40 @@ fn address(at: usize) -> [u8; 10]
         digit(c),
         digit(b),
         digit(a),
-        digit(at),
-        b':',
-        b' ',
+        digit(n),
     ]
 }
 
-fn put_line(shown: &[u8], at: usize, line: &mut [u8]) -> usize
-    requires { ⌜ length (now shown) + 11 ≤ length (now line) ⌝ }
-    ensures { λ r. ⌜ Put (lineText at (now (shown .entry))) (now (line .entry)) (now (line .exit)) r ⌝ }
+// A number behind the bytes already written, in base 10 or 16.
+fn append_number(n: usize, base: u8, out: &mut [u8], at: usize) -> usize
+    requires { ⌜ ((base ≡ 10) ⊎ (base ≡ 16)) × (at + 20 ≤ length (now out)) ⌝ }
+    ensures { λ r. ⌜ Appended at (digitsOf base n) (now (out .entry)) (now (out .exit)) r ⌝ }
 {
-    let head = address(at);
-    let body = append(&head, line, 0);
+    let put = printing::put_plain(n as u64, base, &mut out[at..]);
+    match put {
+        Printed::Wrote(count) => at + count,
+        Printed::Full => at,
+    }
+}
+
+// An address has eight digits, or as many as it needs.
+fn put_address(here: usize, line: &mut [u8]) -> usize
+    requires { ⌜ 20 ≤ length (now line) ⌝ }
+    ensures { λ r. ⌜ Put (addressText here) (now (line .entry)) (now (line .exit)) r ⌝ }
+{
+    if here < 4294967296 {
+        let digits = eight_digits(here);
+        return append(&digits, line, 0);
+    }
+    append_number(here, 16, line, 0)
+}
+
+fn put_line(shown: &[u8], here: usize, line: &mut [u8]) -> usize
+    requires { ⌜ (length (now shown) ≤ longestText) × (length (now line) ≡ lineBytes) ⌝ }
+    ensures { λ r. ⌜ Put (lineText here (now (shown .entry))) (now (line .entry)) (now (line .exit)) r ⌝ }
+{
+    let head = put_address(here, line);
+    let body = append(b": ", line, head);
     let end = append(shown, line, body);
     append(b"\n", line, end)
 }
@@ -149,14 +171,15 @@ fn show(
     desc: &[u8],
     fixed: &mut [usize; FIXED],
     context: u32,
+    address: u32,
     code: &[u8],
     at: usize,
     out: &mut [u8],
 ) -> Shown
     requires { ⌜ PlaceOf (now desc) (now fixed) (now code) at × (length (now out) ≡ longestText) ⌝ }
-    ensures { λ r. ⌜ Shows (now (desc .entry)) (now (fixed .entry)) (now (code .entry)) context at (now (out .entry)) r (now (out .exit)) (now (fixed .exit)) ⌝ }
+    ensures { λ r. ⌜ Shows (now (desc .entry)) (now (fixed .entry)) (now (code .entry)) context address at (now (out .entry)) r (now (out .exit)) (now (fixed .exit)) ⌝ }
 {
-    let found = walking::decode_at(desc, fixed, context, code, at);
+    let found = instructions::decode_at(desc, fixed, context, address, code, at);
     let walked = found.walked;
     match walked {
         Walked::Refused(refusal) => show_refusal(refusal, code[at], at, code.len(), out),
@@ -170,37 +193,27 @@ fn show(
     }
 }
 
-// The line at a place of the code.
+// The line at a place of the code, whose byte 0 has this address.
 pub fn line_at(
     desc: &[u8],
     fixed: &mut [usize; FIXED],
     context: u32,
+    address: u32,
     code: &[u8],
     at: usize,
 ) -> ListingLine
     requires { ⌜ PlaceOf (now desc) (now fixed) (now code) at ⌝ }
-    ensures { λ r. ⌜ r ≡ listingLine (described (now (desc .entry)) (now (fixed .entry))) context (now (code .entry)) at ⌝ }
+    ensures { λ r. ⌜ r ≡ listingLine (described (now (desc .entry)) (now (fixed .entry))) context address (now (code .entry)) at ⌝ }
     ensures { λ _. ⌜ now (fixed .exit) ≡ toldLength (now (fixed .entry)) (now (code .entry)) at ⌝ }
 {
     let mut shown = [0u8; format::TEXT];
-    let found = show(desc, fixed, context, code, at, &mut shown);
+    let found = show(desc, fixed, context, address, code, at, &mut shown);
     let count = found.size;
     let next = found.next;
     let mut bytes = [0u8; LINE];
-    let size = put_line(&shown[..count], at, &mut bytes);
+    let here = (address as usize) + at;
+    let size = put_line(&shown[..count], here, &mut bytes);
     ListingLine { bytes, size, next }
-}
-
-// A decimal number behind the bytes already written.
-fn append_number(n: usize, out: &mut [u8], at: usize) -> usize
-    requires { ⌜ at + 20 ≤ length (now out) ⌝ }
-    ensures { λ r. ⌜ Appended at (digitsOf 10 n) (now (out .entry)) (now (out .exit)) r ⌝ }
-{
-    let put = printing::put_decimal(n as u64, &mut out[at..]);
-    match put {
-        Printed::Wrote(count) => at + count,
-        Printed::Full => at,
-    }
 }
 
 fn put_fault(first: usize, second: usize, line: &mut [u8]) -> usize
@@ -208,9 +221,9 @@ fn put_fault(first: usize, second: usize, line: &mut [u8]) -> usize
     ensures { λ r. ⌜ Put (malformedText first second) (now (line .entry)) (now (line .exit)) r ⌝ }
 {
     let a = append(b"malformed ", line, 0);
-    let b = append_number(first, line, a);
+    let b = append_number(first, 10, line, a);
     let c = append(b" ", line, b);
-    let d = append_number(second, line, c);
+    let d = append_number(second, 10, line, c);
     append(b"\n", line, d)
 }
 

@@ -11,8 +11,10 @@ use Rattle.format.specs.Numbers.{longestText}
 use Rattle.format.specs.Description.{Description}
 use Rattle.decoding_spec.specs.Refusals.{isShort}
 use Rattle.decoding_spec.specs.Tree.{Node}
-use Rattle.decoding_spec.specs.Walk.{Result, done, refused, instructionOf}
+use Rattle.decoding_spec.specs.Walk.{Result, done, refused}
+use Rattle.decoding_spec.specs.Instruction.{instructionOf}
 use Rattle.decoding_theorems.proofs.InBounds.{in-bounds}
+use Rattle.listing_lines.proofs.Appending.{address-long}
 use Rattle.listing_lines.specs.Line.{hexDigits, byteText, shortWord, longWord, fitting, refusedText, refusedNext, shownBy, shownAt, nextBy, nextAt, lineText, lineAt, lineBytes}
 use Rattle.text.specs.Text.{textOf}
 use Rattle.listing_text.specs.Listing.{linesFrom, linesOf}
@@ -22,17 +24,17 @@ pub record Moves (at end next : ℕ) : Type 0 where
   pub on : at < next
   pub inside : next ≤ end
 
-pub moves-on : (d : Description) (c : ℕ) (s : List ℕ) (at : ℕ) → at < length s → Moves at (length s) (nextAt d c s at)
+pub moves-on : (d : Description) (c address : ℕ) (s : List ℕ) (at : ℕ) → at < length s → Moves at (length s) (nextAt d c address s at)
 unfolding nextAt
-moves-on d c s at h = go (instructionOf d c (drop at s)) refl
+moves-on d c address s at h = go (instructionOf d c (address + at) (drop at s)) refl
   where
     one : (b : Bool) → Moves at (length s) (cond b (length s) (at + 1))
     one true = record { on = h; inside = omega arith }
     one false = record { on = omega arith; inside = omega arith }
 
-    go : (r : Result Node) → instructionOf d c (drop at s) ≡ r → Moves at (length s) (nextBy at (length s) r)
+    go : (r : Result Node) → instructionOf d c (address + at) (drop at s) ≡ r → Moves at (length s) (nextBy at (length s) r)
     go (done n l st) e =
-        let f = in-bounds d c (drop at s) n l st e in
+        let f = in-bounds d c (address + at) (drop at s) n l st e in
         record { on = omega (arith, f .some); inside = omega (arith, f .here, length-drop at s) }
     go (refused r) e = one (isShort r)
 
@@ -43,9 +45,9 @@ fitting-length w = go (leb (length w) longestText) refl
     go true e = leb-true (length w) longestText e
     go false e = omega arith
 
-shown-length : (d : Description) (c : ℕ) (s : List ℕ) (at : ℕ) → length (shownAt d c s at) ≤ longestText
+shown-length : (d : Description) (c address : ℕ) (s : List ℕ) (at : ℕ) → length (shownAt d c address s at) ≤ longestText
 unfolding shownAt byteText hexDigits
-shown-length d c s at = go (instructionOf d c (drop at s))
+shown-length d c address s at = go (instructionOf d c (address + at) (drop at s))
   where
     one : (b : Bool) → length (cond b shortWord (byteText (getD s at 0))) ≤ longestText
     one true = omega arith
@@ -55,13 +57,13 @@ shown-length d c s at = go (instructionOf d c (drop at s))
     go (done n l st) = fitting-length (textOf d n)
     go (refused r) = one (isShort r)
 
-pub line-length : (d : Description) (c : ℕ) (s : List ℕ) (at : ℕ) → length (lineAt d c s at) ≤ lineBytes
-unfolding lineAt lineText hexDigits
-line-length d c s at = omega (arith, length-append (shownAt d c s at) (10 ∷ []), shown-length d c s at)
+pub line-length : (d : Description) (c address : ℕ) (s : List ℕ) (at : ℕ) → length (lineAt d c address s at) ≤ lineBytes
+unfolding lineAt lineText
+line-length d c address s at = simp length-append (omega (arith, shown-length d c address s at, address-long (address + at)))
 
-module _ (d : Description) (c : ℕ) (s : List ℕ) where
+module _ (d : Description) (c address : ℕ) (s : List ℕ) where
   -- more lines than there are bytes left are never wanted
-  lines-same : (m n at : ℕ) → length s - at ≤ m → length s - at ≤ n → linesFrom d c s m at ≡ linesFrom d c s n at
+  lines-same : (m n at : ℕ) → length s - at ≤ m → length s - at ≤ n → linesFrom d c address s m at ≡ linesFrom d c address s n at
   unfolding linesFrom
   lines-same zero zero at a b = refl
   lines-same (suc m) zero at a b = rw (le-leb (length s) at (omega arith))
@@ -69,20 +71,20 @@ module _ (d : Description) (c : ℕ) (s : List ℕ) where
   lines-same (suc m) (suc n) at a b = go (leb (length s) at) refl (λ next f g. lines-same m n next f g)
     where
       go : (t : Bool) → leb (length s) at ≡ t
-          → ((next : ℕ) → length s - next ≤ m → length s - next ≤ n → linesFrom d c s m next ≡ linesFrom d c s n next)
-          → cond t [] (lineAt d c s at ++ linesFrom d c s m (nextAt d c s at)) ≡ cond t [] (lineAt d c s at ++ linesFrom d c s n (nextAt d c s at))
+          → ((next : ℕ) → length s - next ≤ m → length s - next ≤ n → linesFrom d c address s m next ≡ linesFrom d c address s n next)
+          → cond t [] (lineAt d c address s at ++ linesFrom d c address s m (nextAt d c address s at)) ≡ cond t [] (lineAt d c address s at ++ linesFrom d c address s n (nextAt d c address s at))
       go true e r = refl
       go false e r =
-          let f = moves-on d c s at (leb-false (length s) at e) in
-          ap (λ (l : List ℕ). lineAt d c s at ++ l) (r (nextAt d c s at) (omega (arith, f .on)) (omega (arith, f .on)))
+          let f = moves-on d c address s at (leb-false (length s) at e) in
+          ap (λ (l : List ℕ). lineAt d c address s at ++ l) (r (nextAt d c address s at) (omega (arith, f .on)) (omega (arith, f .on)))
 
   -- at the end there is no line more ..
-  pub no-line : (at : ℕ) → length s ≤ at → linesOf d c s at ≡ []
+  pub no-line : (at : ℕ) → length s ≤ at → linesOf d c address s at ≡ []
   unfolding linesOf linesFrom
   no-line at h = lines-same (length s) 0 at (omega arith) (omega arith)
 
   -- .. and before it the line at the place, then the lines from the next place on
-  pub line-here : (at : ℕ) → at < length s → linesOf d c s at ≡ lineAt d c s at ++ linesOf d c s (nextAt d c s at)
+  pub line-here : (at : ℕ) → at < length s → linesOf d c address s at ≡ lineAt d c address s at ++ linesOf d c address s (nextAt d c address s at)
   unfolding linesOf linesFrom
   line-here at h =
       lines-same (length s) (suc (length s)) at (omega arith) (omega arith) ∙ rw (lt-leb (length s) at h)

@@ -42,19 +42,20 @@ fn list_in(
     desc: &[u8],
     layout: Layout,
     context: u32,
+    address: u32,
     code: &[u8],
     from: usize,
     out: &mut [u8],
 ) -> Part
     requires { ⌜ WellFormed (now desc) layout ⌝ }
-    ensures { λ r. ⌜ ListsIn (now (desc .entry)) layout context (now (code .entry)) from (now (out .entry)) r (now (out .exit)) ⌝ }
+    ensures { λ r. ⌜ ListsIn (now (desc .entry)) layout context address (now (code .entry)) from (now (out .entry)) r (now (out .exit)) ⌝ }
 {
     let mut fixed = setting::fill(desc, layout, true);
     let mut at = from;
     let mut bytes = 0;
     let mut lines = 0;
     while at < code.len() {
-        let line = listing_lines::line_at(desc, &mut fixed, context, code, at);
+        let line = listing_lines::line_at(desc, &mut fixed, context, address, code, at);
         let text = line.bytes;
         let size = line.size;
         let put = printing::put_bytes(&text[..size], &mut out[bytes..]);
@@ -82,15 +83,22 @@ fn list_in(
     }
 }
 
-// Any bytes as the description and as the code, any context, any place to go on from, any room for text.
-pub fn list(desc: &[u8], context: u32, code: &[u8], from: usize, out: &mut [u8]) -> Listed
-    ensures { λ r. ⌜ r ≡ listOf (now (desc .entry)) context (now (code .entry)) from (length (now (out .entry))) ⌝ }
-    ensures { λ _. ⌜ now (out .exit) ≡ listAfter (now (desc .entry)) context (now (code .entry)) from (now (out .entry)) ⌝ }
+// Any bytes as the description and as the code, any context and address, any place to go on from, any room for text.
+pub fn list(
+    desc: &[u8],
+    context: u32,
+    address: u32,
+    code: &[u8],
+    from: usize,
+    out: &mut [u8],
+) -> Listed
+    ensures { λ r. ⌜ r ≡ listOf (now (desc .entry)) context address (now (code .entry)) from (length (now (out .entry))) ⌝ }
+    ensures { λ _. ⌜ now (out .exit) ≡ listAfter (now (desc .entry)) context address (now (code .entry)) from (now (out .entry)) ⌝ }
 {
     let acceptance = acceptance::accept(desc);
     match acceptance {
         Acceptance::Accepted(layout) => {
-            Listed::Done(list_in(desc, layout, context, code, from, out))
+            Listed::Done(list_in(desc, layout, context, address, code, from, out))
         }
         Acceptance::Rejected(rejection) => Listed::Rejected(rejection),
     }
@@ -188,7 +196,7 @@ pub fn list_input(input: &[u8], from: usize, out: &mut [u8]) -> Part
     let code = &input[end..last];
     let acceptance = acceptance::accept(desc);
     match acceptance {
-        Acceptance::Accepted(layout) => list_in(desc, layout, 0, code, from, out),
+        Acceptance::Accepted(layout) => list_in(desc, layout, 0, 0, code, from, out),
         Acceptance::Rejected(rejection) => list_fault(rejection, from, out),
     }
 }

@@ -3,7 +3,7 @@ use Prim.Native.Nat.{ℕ, zero, suc, _/_, _%_, _^_, _≤_, _<_}
 use mathlib.Core.Bool.{Bool, true, false, cond}
 use mathlib.Core.List.{List, [], _∷_, _++_}
 use mathlib.Core.Logic.{_⊎_, ⊎-elim}
-use mathlib.Core.Path.{_≡_, _∙_, ap}
+use mathlib.Core.Path.{_≡_, sym, _∙_, ap}
 use native.Mathlib.Nat.{div-lt-iff-lt-mul, pow-zero, pow-suc}
 use native.Mathlib.Omega.{arith}
 use borrow.Author.Tests.{lt-ltb, le-ltb, eq-eqb, ne-eqb}
@@ -12,7 +12,7 @@ use lib.IntN.{ℤ, pos, negsuc, natAbs}
 use lib.ListN.{length, length-append}
 use Rattle.printing.specs.Numerals.{digitOf, digitsUpTo, digitsOf, signText, prefixText, numberText}
 
-up-to-length : (most base n : ℕ) → length (digitsUpTo most base n) ≤ most
+pub up-to-length : (most base n : ℕ) → length (digitsUpTo most base n) ≤ most
 unfolding digitsUpTo
 up-to-length zero base n = omega arith
 up-to-length (suc most) base n = go (up-to-length most base (n / base)) (ltb n base)
@@ -58,6 +58,13 @@ more zero base n b h = let l : n < base = omega (arith, rw (pow-suc, pow-zero) a
 more (suc k) base n b h =
     ap (λ (l : List ℕ). cond (ltb n base) (digitOf n ∷ []) (l ++ (digitOf (n % base) ∷ [])))
     (more k base (n / base) b (div-lt-iff-lt-mul {k = base} {x = n} {y = base ^ suc k} b .1 (rw (pow-suc base (suc k)) at h)))
+
+-- a number of 64 bits has at most 16 hex digits
+pub hex-digits : (n : ℕ) → n < 2 ^ 64 → digitsOf 16 n ≡ digitsUpTo 16 16 n
+unfolding digitsOf
+hex-digits n h =
+    let some : 0 < 16 = omega arith in
+    sym (more 15 16 n some h ∙ more 16 16 n some (omega arith) ∙ more 17 16 n some (omega arith) ∙ more 18 16 n some (omega arith))
 
 abbrev pub Base : ℕ → Type 0
 Base base = (base ≡ 10) ⊎ (base ≡ 16)

@@ -118,11 +118,12 @@ pub fn put_number(value: i64, base: u8, out: &mut [u8]) -> Printed
     put_bytes(&text[at..], out)
 }
 
-// A decimal number without a sign.
-pub fn put_decimal(n: u64, out: &mut [u8]) -> Printed
-    ensures { λ r. ⌜ Puts (digitsOf 10 n) (now (out .entry)) (now (out .exit)) r ⌝ }
+// A number without sign and prefix, in base 10 or 16.
+pub fn put_plain(n: u64, base: u8, out: &mut [u8]) -> Printed
+    requires { ⌜ (base ≡ 10) ⊎ (base ≡ 16) ⌝ }
+    ensures { λ r. ⌜ Puts (digitsOf base n) (now (out .entry)) (now (out .exit)) r ⌝ }
 {
     let mut text = [0u8; 23];
-    let at = put_digits(n, 10, &mut text);
+    let at = put_digits(n, base, &mut text);
     put_bytes(&text[at..], out)
 }

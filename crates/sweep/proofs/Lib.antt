@@ -2,3 +2,4 @@
 mod Places
 mod Turns
 pub mod Facts
+pub mod Addresses

@@ -425,7 +425,7 @@ fn read(name: &[u8], code: &[u8]) {
     line(name);
     let s = S;
     let mut text = [0u8; 64];
-    let texted = text_decoding::decode_text(&s, 0, code, &mut text);
+    let texted = text_decoding::decode_text(&s, 0, 0, code, &mut text);
     match texted {
         Texted::Done(count) => {
             number(0);
@@ -457,7 +457,7 @@ fn sweep_of(name: &[u8], room: usize) {
     let code = [0x13u8, 0x30, 0x1f, 0x25];
     let mut rows = [0i64; 32];
     if room <= 32 {
-        let swept = sweep::sweep(&s, 0, &code, &mut rows[..room]);
+        let swept = sweep::sweep(&s, 0, 0, &code, &mut rows[..room]);
         match swept {
             Swept::Ended {
                 why,

@@ -1,4 +1,4 @@
--- Every worked case that document 01 marks with a star holds, by computation.
+-- Every worked case of the table holds, by computation.
 use Prim.Native.Nat.{ℕ, _<_}
 use native.Mathlib.Omega.{arith}
 use lib.Dec.{lit<, lit≤}
@@ -6,9 +6,13 @@ use mathlib.Core.Path.{_≡_, refl}
 use Rattle.lists.specs.Below.{allBelow, anyBelow, firstBelow}
 use Rattle.lists.specs.Tab.{tabFrom}
 use Rattle.bits.specs.Bits.{onesOf}
-use Rattle.format.specs.Layout.{sectionAt, layoutOf, namesFrom, constructorsFrom, operandsFrom, piecesFrom, textFrom}
-use Rattle.format.specs.Description.{fieldsOf, namesOf, constructorsOf, operandsOf, piecesOf, textOf}
-use Rattle.format.specs.Rules.{fieldOk, constructorOk, shapeOk, operandFits, pieceFits, shows, hasTable, operandOk}
+use Rattle.format.specs.Layout.{sectionAt, layoutOf, namesFrom, constructorsFrom, operandsFrom, piecesFrom, textFrom, expressionsFrom}
+use Rattle.format.specs.Description.{fieldsOf, namesOf, constructorsOf, operandsOf, piecesOf, textOf, expressionsOf}
+use Rattle.format.specs.Rules.{fieldOk, constructorOk, shapeOk, fieldOperand, expressionFits, operandFits, pieceFits, shows, hasTable, operandOk}
+use Rattle.format.specs.Expression.{expressionAt, depthAfter, stepValueOk, stepOk, stepsOk, restEmpty, writesExpression, namesOnly}
+use Rattle.whole_numbers.specs.Range as range
+use Rattle.whole_numbers.specs.Operators.{leftZ}
+use Rattle.expressions.specs.Value as value
 use Rattle.format.specs.Check.{checkOf, faultOf, partFault, lastFault, badField, badName, badConstructor, badOperand, badPiece, badLetter, badExpression}
 use Rattle.format.specs.Tables.{tableFirst, tableEnd}
 use Rattle.patterns.specs.Matching.{contextAgrees, matches, agrees, masksMissing, cutOff}
@@ -33,15 +37,16 @@ use Rattle.fields.specs.Value.{valueOf, ofBits, sourceBit, tokenByte}
 use Rattle.fields.specs.Look.{lookOf, numberOf, signedOf}
 use Rattle.decoding_spec.specs.Tree.{rowsOf, rowsOfAll, numbersOf}
 use Rattle.decoding_spec.specs.Walk as walk
-use Rattle.decoding_spec.specs.Walk.{shownAs, fieldFrom, operandFrom, closed, constructorFrom, tableFrom, walkFrom, choiceIn, instructionFrom, instructionOf}
+use Rattle.decoding_spec.specs.Walk.{shownAs, fieldFrom, computedFrom, operandFrom, closed, constructorFrom, tableFrom, walkFrom, choiceIn, walkedFrom, walkedOf}
+use Rattle.decoding_spec.specs.Instruction.{countsAs, countsOf, withValues, withValuesAll, completed, instructionOf}
 use Rattle.decoding.specs.Decoding.{decodeOf, rowsAfter}
 use Rattle.printing.specs.Numerals.{digitOf, digitsUpTo, digitsOf, signText, prefixText, numberText}
 use Rattle.printing.specs.Writing.{over}
 use Rattle.text.specs.Text as text
-use Rattle.text.specs.Text.{letters, pieceText, piecesText, constructorText, nameText, textsOf}
+use Rattle.text.specs.Text.{computedText, letters, pieceText, piecesText, constructorText, nameText, textsOf}
 use Rattle.text_decoding.specs.TextDecoding.{decodeTextOf, textAfter}
 use Rattle.worked_theorems.specs.Cases as cases-of
-use Rattle.worked_theorems.specs.Cases.{Starred, leafZero, leafNone, same, allHold, asks, clashes, bytes, rows, two, three, halves, chooses, pairs, decodes, reads, cases, holds}
+use Rattle.worked_theorems.specs.Cases.{Starred, leafZero, leafNone, same, allHold, asks, clashes, bytes, rows, two, three, halves, chooses, pairs, decodesBy, readsBy, decodes, reads, cases, holds}
 
 -- what table 0 of S has: one pattern, of no masked bit
 module _ (at : ℕ → Pattern) (e : at 0 ≡ start) where
@@ -62,16 +67,19 @@ module _ (at : ℕ → Pattern) (e : at 0 ≡ start) where
 pub cases-hold : Starred
 unfolding holds cases allHold same asks clashes bytes rows two three halves chooses pairs
     allBelow anyBelow firstBelow tabFrom onesOf
-    sectionAt layoutOf namesFrom constructorsFrom operandsFrom piecesFrom textFrom
-    fieldsOf namesOf constructorsOf operandsOf piecesOf textOf
-    fieldOk constructorOk shapeOk operandFits pieceFits shows hasTable operandOk
+    sectionAt layoutOf namesFrom constructorsFrom operandsFrom piecesFrom textFrom expressionsFrom
+    fieldsOf namesOf constructorsOf operandsOf piecesOf textOf expressionsOf
+    fieldOk constructorOk shapeOk fieldOperand expressionFits operandFits pieceFits shows hasTable operandOk
+    expressionAt depthAfter stepValueOk stepOk stepsOk restEmpty writesExpression namesOnly
+    range.inside leftZ value.termOf value.operatorOf value.madeOf value.stepOn value.stackAfter value.valueOf
     checkOf faultOf partFault lastFault badField badName badConstructor badOperand badPiece badLetter badExpression
     tableFirst tableEnd contextAgrees matches agrees masksMissing cutOff insideBits inside meetBits overlap weight
     short matching innermost taken alone choose crossing third clashing partner firstClash clashOf
     acceptanceOf patternFrom askIn askOf clashIn clashAnswer formOf walkOf nodeOk leafOk kindAt bitAt placeAt
-    cases-of.signedOf decodes valueOf ofBits sourceBit tokenByte lookOf numberOf signedOf rowsOf rowsOfAll numbersOf shownAs fieldFrom operandFrom
-    walk.operandsFrom closed constructorFrom tableFrom walkFrom choiceIn instructionFrom instructionOf decodeOf rowsAfter
-    reads digitOf digitsUpTo digitsOf signText prefixText numberText over letters pieceText piecesText constructorText nameText text.textOf textsOf
+    cases-of.signedOf decodesBy decodes valueOf ofBits sourceBit tokenByte lookOf numberOf signedOf rowsOf rowsOfAll numbersOf shownAs fieldFrom computedFrom operandFrom
+    walk.operandsFrom closed constructorFrom tableFrom walkFrom choiceIn walkedFrom walkedOf
+    countsAs countsOf withValues withValuesAll completed instructionOf decodeOf rowsAfter
+    readsBy reads digitOf digitsUpTo digitsOf signText prefixText numberText over computedText letters pieceText piecesText constructorText nameText text.textOf textsOf
     decodeTextOf textAfter
 cases-hold =
     record {

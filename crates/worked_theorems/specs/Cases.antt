@@ -1,4 +1,5 @@
--- The cases of document 01 that are marked with a star, as one table: what the definitions give, and what document 01 says.
+-- The cases of document 01 that are marked with a star, and some of document 02, as one table: what the definitions give, and what
+-- the documents say.
 use Prim.Native.Nat.{ℕ, _*_}
 use mathlib.Core.Bool.{Bool, true, false, _&&_}
 use mathlib.Core.List.{List, [], _∷_, _++_}
@@ -18,6 +19,7 @@ use Rattle.decoding.specs.Decoding as decoding
 use Rattle.decoding.specs.Decoding.{decodeOf, rowsAfter}
 use Rattle.text_decoding.specs.TextDecoding as texting
 use Rattle.text_decoding.specs.TextDecoding.{decodeTextOf, textAfter}
+use Rattle.worked_theorems.specs.Branches.{B}
 use Rattle.tree_check.specs.Entry.{Answers}
 use Rattle.tree_check.specs.declared.Answer.the-variants.{Accepted, WrongLeaf}
 
@@ -71,16 +73,24 @@ signedOf [] = []
 signedOf (pos n ∷ zs) = 0 ∷ n ∷ signedOf zs
 signedOf (negsuc n ∷ zs) = 1 ∷ natAbs (negsuc n) ∷ signedOf zs
 
--- decoding S to so many lent rows, whose numbers are 7 before: the answer, and the lent numbers afterwards
-unfoldable pub decodes : ℕ → List ℕ → List ℕ
-decodes n s =
-    (decoding.numberOf (decodeOf S 0 s (4 * n)) ∷ decoding.valuesOf (decodeOf S 0 s (4 * n)))
-    ++ signedOf (rowsAfter S 0 s (replicate (4 * n) (pos 7)))
+-- decoding to so many lent rows, whose numbers are 7 before, at an address: the answer, and the lent numbers afterwards
+unfoldable pub decodesBy : List ℕ → (address n : ℕ) → List ℕ → List ℕ
+decodesBy b address n s =
+    (decoding.numberOf (decodeOf b 0 address s (4 * n)) ∷ decoding.valuesOf (decodeOf b 0 address s (4 * n)))
+    ++ signedOf (rowsAfter b 0 address s (replicate (4 * n) (pos 7)))
 
--- decoding S to text into so many lent bytes, which are 63 before: the answer, and the lent bytes afterwards
+-- decoding to text into so many lent bytes, which are 63 before, at an address: the answer, and the lent bytes afterwards
+unfoldable pub readsBy : List ℕ → (address n : ℕ) → List ℕ → List ℕ
+readsBy b address n s =
+    (texting.numberOf (decodeTextOf b 0 address s n) ∷ texting.valuesOf (decodeTextOf b 0 address s n))
+    ++ textAfter b 0 address s (replicate n 63)
+
+-- of S; it has no expression, so that the address plays no part
+unfoldable pub decodes : ℕ → List ℕ → List ℕ
+decodes n s = decodesBy S 0 n s
+
 unfoldable pub reads : ℕ → List ℕ → List ℕ
-reads n s =
-    (texting.numberOf (decodeTextOf S 0 s n) ∷ texting.valuesOf (decodeTextOf S 0 s n)) ++ textAfter S 0 s (replicate n 63)
+reads n s = readsBy S 0 n s
 
 unfoldable pub cases : List Case
 cases =
@@ -148,6 +158,41 @@ cases =
     record { given = reads 1 (0x25 ∷ []); said = 2 ∷ 1 ∷ 0 ∷ 0 ∷ 0 ∷ 63 ∷ [] } ∷
     record { given = reads 0 []; said = 2 ∷ 0 ∷ 0 ∷ 0 ∷ 0 ∷ [] } ∷
     record { given = reads 0 (0x30 ∷ []); said = 3 ∷ 0 ∷ 1 ∷ 0 ∷ 0 ∷ [] } ∷
+    -- S with a section 7: a branch by 16 bytes from the address after it, forwards and backwards, "jmp 0x112" and "jmp 0xf2" at 0x100
+    record {
+      given = decodesBy B 0x100 3 (0x40 ∷ 0x10 ∷ []);
+      said =
+          0 ∷ 3 ∷ 0 ∷ 0 ∷ 0 ∷
+          0 ∷ 0 ∷ 0 ∷ 4 ∷ 0 ∷ 0 ∷ 0 ∷ 2 ∷
+          0 ∷ 1 ∷ 0 ∷ 1 ∷ 0 ∷ 1 ∷ 0 ∷ 16 ∷
+          0 ∷ 3 ∷ 0 ∷ 0 ∷ 0 ∷ 0 ∷ 0 ∷ 0x112 ∷ [];
+    } ∷
+    record { given = readsBy B 0x100 9 (0x40 ∷ 0x10 ∷ []); said = 0 ∷ 9 ∷ 0 ∷ 0 ∷ 0 ∷ 106 ∷ 109 ∷ 112 ∷ 32 ∷ 48 ∷ 120 ∷ 49 ∷ 49 ∷ 50 ∷ [] } ∷
+    record { given = readsBy B 0x100 8 (0x40 ∷ 0xf0 ∷ []); said = 0 ∷ 8 ∷ 0 ∷ 0 ∷ 0 ∷ 106 ∷ 109 ∷ 112 ∷ 32 ∷ 48 ∷ 120 ∷ 102 ∷ 50 ∷ [] } ∷
+    -- "no address wraps": "jmp -0xe" at 0, and 0x100000000 from the last address of 32 bits
+    record { given = readsBy B 0 8 (0x40 ∷ 0xf0 ∷ []); said = 0 ∷ 8 ∷ 0 ∷ 0 ∷ 0 ∷ 106 ∷ 109 ∷ 112 ∷ 32 ∷ 45 ∷ 48 ∷ 120 ∷ 101 ∷ [] } ∷
+    record {
+      given = decodesBy B 0xffffffff 3 (0x40 ∷ 0xff ∷ []);
+      said =
+          0 ∷ 3 ∷ 0 ∷ 0 ∷ 0 ∷
+          0 ∷ 0 ∷ 0 ∷ 4 ∷ 0 ∷ 0 ∷ 0 ∷ 2 ∷
+          0 ∷ 1 ∷ 0 ∷ 1 ∷ 0 ∷ 1 ∷ 1 ∷ 1 ∷
+          0 ∷ 3 ∷ 0 ∷ 0 ∷ 0 ∷ 0 ∷ 0 ∷ 0x100000000 ∷ [];
+    } ∷
+    -- a shift left by 63: -1 is the least number, 1 is outside, "refused with 13 and the operand's place", also with nothing lent
+    record {
+      given = decodesBy B 0 3 (0x50 ∷ 0xff ∷ []);
+      said =
+          0 ∷ 3 ∷ 0 ∷ 0 ∷ 0 ∷
+          0 ∷ 0 ∷ 0 ∷ 5 ∷ 0 ∷ 0 ∷ 0 ∷ 2 ∷
+          0 ∷ 1 ∷ 0 ∷ 1 ∷ 0 ∷ 1 ∷ 1 ∷ 1 ∷
+          0 ∷ 3 ∷ 0 ∷ 1 ∷ 0 ∷ 0 ∷ 1 ∷ 0x8000000000000000 ∷ [];
+    } ∷
+    record { given = decodesBy B 0 0 (0x50 ∷ 0x01 ∷ []); said = 13 ∷ 0 ∷ 0 ∷ 0 ∷ 0 ∷ [] } ∷
+    record { given = readsBy B 0 1 (0x50 ∷ 0x01 ∷ []); said = 13 ∷ 0 ∷ 0 ∷ 0 ∷ 0 ∷ 63 ∷ [] } ∷
+    -- a refusal of the walk comes before it, and the same bytes of S are decoded as before
+    record { given = readsBy B 0 1 (0x50 ∷ []); said = 2 ∷ 1 ∷ 0 ∷ 0 ∷ 0 ∷ 63 ∷ [] } ∷
+    record { given = readsBy B 0x100 8 (0x13 ∷ []); said = 0 ∷ 6 ∷ 0 ∷ 0 ∷ 0 ∷ 105 ∷ 110 ∷ 99 ∷ 32 ∷ 114 ∷ 51 ∷ 63 ∷ 63 ∷ [] } ∷
     []
 
 unfoldable pub holds : Bool

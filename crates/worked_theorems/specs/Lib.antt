@@ -1,2 +1,3 @@
 -- Document 01's worked cases.
+pub mod Branches
 pub mod Cases

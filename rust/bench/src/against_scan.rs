@@ -15,6 +15,8 @@ use crate::subjects::{any_instructions, avr_description};
 use crate::sweep::CODE;
 use crate::timing::medians_of;
 
+const ADDRESS: u32 = 0;
+
 const ROW_NUMBERS: usize = 4;
 
 /// So many instructions are compared one by one.
@@ -125,16 +127,17 @@ impl Case {
 
     fn scans_alike<const GROUP: usize>(&self, scan: &Scan<GROUP>) {
         let [mut proved, mut scanned] = [(); 2].map(|()| vec![0; ROW_NUMBERS * CODE]);
-        let answer = dookerand::sweep(&self.set.bytes, self.context, self.code(), &mut proved);
-        let (end, rows, next) = scan.sweep(self.context, self.code(), &mut scanned);
+        let bytes = &self.set.bytes;
+        let answer = dookerand::sweep(bytes, self.context, ADDRESS, self.code(), &mut proved);
+        let (end, rows, next) = scan.sweep(self.context, ADDRESS, self.code(), &mut scanned);
         let found = (0, [end as u64, rows as u64, next as u64, 0]);
         assert_eq!((answer.number, answer.values), found, "{}", self.name);
         assert!(proved == scanned, "{}: other rows", self.name);
         for call in 0..COMPARED {
             let code = self.set.code(call);
             let [mut proved, mut scanned] = [[0; ROOM]; 2];
-            let answer = dookerand::decode(&self.set.bytes, self.context, code, &mut proved);
-            let rows = scan.decode(self.context, code, &mut scanned);
+            let answer = dookerand::decode(bytes, self.context, ADDRESS, code, &mut proved);
+            let rows = scan.decode(self.context, ADDRESS, code, &mut scanned);
             assert_eq!(answer.number, 0, "{}", self.name);
             assert_eq!(rows, Ok(answer.values[0] as usize), "{}", self.name);
             assert_eq!(proved, scanned, "{}", self.name);
@@ -146,7 +149,7 @@ impl Case {
         let proved = move |_| {
             let rows = &mut *black_box(lent.borrow_mut());
             let (bytes, code) = (black_box(&self.set.bytes), black_box(self.code()));
-            let answer = dookerand::sweep(bytes, self.context, code, rows);
+            let answer = dookerand::sweep(bytes, self.context, ADDRESS, code, rows);
             assert_eq!(black_box(answer).number, 0);
         };
         let scans = (
@@ -160,7 +163,7 @@ impl Case {
         let lent = RefCell::new(vec![0; ROW_NUMBERS * CODE]);
         Box::new(move |_| {
             let rows = &mut *black_box(lent.borrow_mut());
-            let swept = black_box(scan).sweep(self.context, black_box(self.code()), rows);
+            let swept = black_box(scan).sweep(self.context, ADDRESS, black_box(self.code()), rows);
             assert!(black_box(swept).1 > 0);
         })
     }
@@ -170,7 +173,7 @@ impl Case {
         let proved = move |call| {
             let rows = &mut *black_box(lent.borrow_mut());
             let bytes = black_box(&self.set.bytes);
-            let answer = dookerand::decode(bytes, self.context, self.set.code(call), rows);
+            let answer = dookerand::decode(bytes, self.context, ADDRESS, self.set.code(call), rows);
             assert_eq!(black_box(answer).number, 0);
         };
         let scans = (
@@ -184,7 +187,7 @@ impl Case {
         let lent = RefCell::new([0; ROOM]);
         Box::new(move |call| {
             let rows = &mut *black_box(lent.borrow_mut());
-            let decoded = black_box(scan).decode(self.context, self.set.code(call), rows);
+            let decoded = black_box(scan).decode(self.context, ADDRESS, self.set.code(call), rows);
             assert!(black_box(decoded).is_ok());
         })
     }

@@ -10,6 +10,7 @@ use crate::choosing::Set;
 use crate::timing::MANY;
 
 pub const CONTEXT: u32 = 1;
+pub const ADDRESS: u32 = 0;
 
 /// Numbers for the most rows.
 const LENT: usize = 128;
@@ -19,18 +20,19 @@ pub fn all() {
     let lent = RefCell::new([0; LENT]);
     let proved = |call| {
         let rows = &mut *black_box(lent.borrow_mut());
-        let answer = dookerand::decode(black_box(&set.bytes), CONTEXT, set.code(call), rows);
+        let bytes = black_box(&set.bytes);
+        let answer = dookerand::decode(bytes, CONTEXT, ADDRESS, set.code(call), rows);
         assert_eq!(black_box(answer).number, 0);
     };
     let whole = |call| {
         let rows = &mut *black_box(lent.borrow_mut());
         let bytes = black_box(&set.bytes);
-        let answer = reference::requests::rows(bytes, CONTEXT, set.code(call), rows);
+        let answer = reference::requests::rows(bytes, CONTEXT, ADDRESS, set.code(call), rows);
         assert_eq!(black_box(answer.number_and_values()).0, 0);
     };
     let alone = |call| {
         let description = black_box(&set.description);
-        let rows = reference::decode(description, CONTEXT, set.code(call));
+        let rows = reference::decode(description, CONTEXT, ADDRESS, set.code(call));
         assert!(black_box(rows).is_ok());
     };
     set.compare("decode", (MANY, 100), [&proved, &whole, &alone]);
@@ -39,7 +41,8 @@ pub fn all() {
 pub fn one_decode() -> Answer {
     let mut rows = [0; LENT];
     let set = set(1);
-    dookerand::decode(black_box(&set.bytes), CONTEXT, set.code(0), &mut rows)
+    let bytes = black_box(&set.bytes);
+    dookerand::decode(bytes, CONTEXT, ADDRESS, set.code(0), &mut rows)
 }
 
 pub fn one_check() -> Answer {

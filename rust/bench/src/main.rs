@@ -1,6 +1,6 @@
 //! Times the proved library: every request beside the reference, sweeps and
-//! decodings beside the simplest fast scan, and AVR code beside other
-//! disassemblers. `bench details` says more about some requests, in processor
+//! decodings beside the simplest fast scan, expressions beside a plain
+//! evaluation, and AVR code beside other disassemblers. `bench details` says more about some requests, in processor
 //! time.
 //!
 //! `bench one` makes exactly one proved check of the longest description,
@@ -17,6 +17,7 @@ mod against_scan;
 mod choosing;
 mod clock;
 mod decoding;
+mod expressions;
 mod processes;
 mod scan;
 mod speed;
@@ -74,6 +75,7 @@ fn main() {
 fn overview() {
     table::print();
     against_scan::print();
+    expressions::print();
     speed::print();
     let cores = std::thread::available_parallelism().map_or(1, usize::from);
     println!("{cores} cores; every time is the median of rounds in which the jobs take turns. CPU is the");

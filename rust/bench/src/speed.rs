@@ -22,6 +22,7 @@ const ROUNDS: usize = 5;
 const CHECKS: usize = 16;
 
 const CONTEXT: u32 = 0;
+const ADDRESS: u32 = 0;
 
 const ROW_NUMBERS: usize = 4;
 const TEXT: usize = 256;
@@ -36,19 +37,21 @@ pub fn print() {
     let lent = RefCell::new(vec![0; ROW_NUMBERS * instructions]);
     let sweep = |_| {
         let rows = &mut *black_box(lent.borrow_mut());
-        let answer = dookerand::sweep(black_box(&description), CONTEXT, black_box(&code), rows);
+        let bytes = black_box(&description);
+        let answer = dookerand::sweep(bytes, CONTEXT, ADDRESS, black_box(&code), rows);
         let all = [0, instructions as u64, size as u64, 0];
         assert_eq!((black_box(answer).number, answer.values), (0, all));
     };
     let reference_sweep = |_| {
-        let swept = reference::sweep(black_box(&d), CONTEXT, black_box(&code), instructions);
+        let code = black_box(&code);
+        let swept = reference::sweep(black_box(&d), CONTEXT, ADDRESS, code, instructions);
         assert_eq!(black_box(swept).rows.len(), instructions);
     };
     let scan = Scan::<4>::new(&d);
     let scan_lent = RefCell::new(vec![0; ROW_NUMBERS * instructions]);
     let scan_sweep = |_| {
         let rows = &mut *black_box(scan_lent.borrow_mut());
-        let (_, written, _) = black_box(&scan).sweep(CONTEXT, black_box(&code), rows);
+        let (_, written, _) = black_box(&scan).sweep(CONTEXT, ADDRESS, black_box(&code), rows);
         assert_eq!(black_box(written), instructions);
     };
     let texts = |call| {
@@ -56,7 +59,8 @@ pub fn print() {
         let mut text = [0; TEXT];
         for row in lent.borrow().chunks(ROW_NUMBERS) {
             let rest = &code[row[0] as usize..];
-            let answer = dookerand::text(black_box(&description), CONTEXT, rest, &mut text);
+            let bytes = black_box(&description);
+            let answer = dookerand::text(bytes, CONTEXT, ADDRESS, rest, &mut text);
             assert_eq!(black_box(answer).number, 0);
             black_box(&text);
         }
@@ -66,7 +70,8 @@ pub fn print() {
         let (mut next, mut full, mut listed) = (0, true, 0);
         while full {
             let bytes = black_box(&description);
-            let part = dookerand::list(bytes, CONTEXT, black_box(&code), next, &mut text);
+            let code = black_box(&code);
+            let part = dookerand::list(bytes, CONTEXT, ADDRESS, code, next, &mut text);
             let Listing::Listed {
                 lines,
                 next: behind,

@@ -105,7 +105,7 @@ pub fn any_instructions(d: &Description, bytes: usize) -> (Vec<u8>, Vec<usize>) 
     let (mut code, mut starts) = (Vec::new(), Vec::new());
     while code.len() < bytes {
         let any: Vec<u8> = (0..INSTRUCTION).map(|_| rng.byte()).collect();
-        if let Ok(rows) = decode(d, 0, &any) {
+        if let Ok(rows) = decode(d, 0, 0, &any) {
             starts.push(code.len());
             code.extend(&any[..rows[0][3] as usize]);
         }

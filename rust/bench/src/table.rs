@@ -15,6 +15,8 @@ const TEXT: usize = 256;
 
 const ROW_NUMBERS: usize = 4;
 
+const ADDRESS: u32 = 0;
+
 /// Makes the request of the proved library, and of the reference.
 type Jobs<'a> = [Box<dyn Fn(usize) + 'a>; 2];
 
@@ -110,11 +112,13 @@ fn decode(s: &Subject) -> Jobs<'_> {
     [
         Box::new(move |call| {
             let rows = &mut *black_box(lent.borrow_mut());
-            done(dookerand::decode(s.bytes(), s.context, s.code(call), rows));
+            let answer = dookerand::decode(s.bytes(), s.context, ADDRESS, s.code(call), rows);
+            done(answer);
         }),
         Box::new(move |call| {
             let rows = &mut *black_box(reference_lent.borrow_mut());
-            reference_done(requests::rows(s.bytes(), s.context, s.code(call), rows));
+            let answer = requests::rows(s.bytes(), s.context, ADDRESS, s.code(call), rows);
+            reference_done(answer);
         }),
     ]
 }
@@ -124,11 +128,13 @@ fn text(s: &Subject) -> Jobs<'_> {
     [
         Box::new(move |call| {
             let text = &mut *black_box(lent.borrow_mut());
-            done(dookerand::text(s.bytes(), s.context, s.code(call), text));
+            let answer = dookerand::text(s.bytes(), s.context, ADDRESS, s.code(call), text);
+            done(answer);
         }),
         Box::new(move |call| {
             let text = &mut *black_box(reference_lent.borrow_mut());
-            reference_done(requests::text(s.bytes(), s.context, s.code(call), text));
+            let answer = requests::text(s.bytes(), s.context, ADDRESS, s.code(call), text);
+            reference_done(answer);
         }),
     ]
 }
@@ -139,16 +145,12 @@ fn sweep(s: &Subject) -> Jobs<'_> {
     [
         Box::new(move |_| {
             let rows = &mut *black_box(lent.borrow_mut());
-            done(dookerand::sweep(
-                s.bytes(),
-                s.context,
-                black_box(code),
-                rows,
-            ));
+            let answer = dookerand::sweep(s.bytes(), s.context, ADDRESS, black_box(code), rows);
+            done(answer);
         }),
         Box::new(move |_| {
             let rows = &mut *black_box(reference_lent.borrow_mut());
-            let answer = requests::sweep(s.bytes(), s.context, black_box(code), rows);
+            let answer = requests::sweep(s.bytes(), s.context, ADDRESS, black_box(code), rows);
             reference_done(answer);
         }),
     ]

@@ -3,8 +3,8 @@
 use generate::example::{description_s, full_featured};
 use generate::{
     bytes, change_bytes, change_counts, change_records, count_faults, insert_or_remove, limits,
-    longest, longest_of_all, random_records, rules, section_starts, well_formed, Rng, Size, CHANGES,
-    SECTIONS,
+    longest, longest_of_all, random_records, rules, section_starts, well_formed, Rng, Size,
+    CHANGES, SECTIONS,
 };
 use reference::{Description, Fault, WHOLE_SECTION};
 
@@ -26,6 +26,7 @@ pub fn compare(rng: &mut Rng) {
     check.cuts_of_s();
     check.broken_rules();
     check.allowed_changes();
+    check.empty_section();
     check.wrong_counts();
     check.limits();
     check.longest(&longest(), "longest of six, changed");
@@ -127,6 +128,18 @@ impl Check<'_> {
                 if change(&mut d, self.rng).is_some() {
                     self.known(&bytes(&d), None, name);
                 }
+            }
+        }
+    }
+
+    /// The last section may be there and have no records.
+    fn empty_section(&mut self) {
+        self.kind = "section 7 empty";
+        for _ in 0..500 {
+            let d = self.base();
+            if d.expressions.is_empty() {
+                let empty = [&bytes(&d)[..], &[0, 0]].concat();
+                self.known(&empty, None, self.kind);
             }
         }
     }

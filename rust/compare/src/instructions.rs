@@ -82,7 +82,7 @@ impl<R: Request> Instructions<'_, R> {
         self.leaning("leaning to ambiguous", 1_500, Leaning::Ambiguous);
         self.larger();
         self.row_counts();
-        self.operators();
+        self.expressions();
         self.well_formed();
         self.broken_rules();
         self.changed("records changed", change_records);
@@ -246,7 +246,7 @@ impl<R: Request> Instructions<'_, R> {
     }
 
     /// Expressions of every length, at addresses where something may change.
-    fn operators(&mut self) {
+    fn expressions(&mut self) {
         self.kind = "expressions";
         for i in 0..4_000 {
             let some = some_expression(self.rng, &[1], 1 + i % STEP_LIMIT);

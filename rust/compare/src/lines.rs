@@ -77,6 +77,21 @@ struct Lists<'a> {
     kind: &'static str,
 }
 
+/// The number and values that both gave for a listing from a place on, with the
+/// lent bytes.
+pub fn agreed_list(given: &Given, from: u64, lent: usize) -> (u32, [u64; 4], Vec<u8>) {
+    agreed_with_lent(
+        given,
+        lent,
+        |description, context, address, code, text| {
+            requests::list(description, context, address, code, from, text)
+        },
+        |description, context, address, code, text| {
+            dookerand::list_answer(description, context, address, code, from, text)
+        },
+    )
+}
+
 /// A part of a listing that both gave.
 struct Part {
     text: Vec<u8>,
@@ -87,16 +102,7 @@ struct Part {
 impl Lists<'_> {
     /// Compares one call, if the description is well formed with what it gave.
     fn one(&mut self, given: &Given, from: u64, lent: usize) -> Option<Part> {
-        let (number, values, mut text) = agreed_with_lent(
-            given,
-            lent,
-            |description, context, address, code, text| {
-                requests::list(description, context, address, code, from, text)
-            },
-            |description, context, address, code, text| {
-                dookerand::list_answer(description, context, address, code, from, text)
-            },
-        );
+        let (number, values, mut text) = agreed_list(given, from, lent);
         let listing = Listing::from(dookerand::Answer { number, values });
         let Listing::Listed {
             bytes,

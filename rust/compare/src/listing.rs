@@ -5,10 +5,10 @@ use std::path::{Path, PathBuf};
 use std::process::{exit, Command, Output, Stdio};
 use std::thread;
 
-use generate::example::{description_s, full_featured};
+use generate::example::{description_s, full_featured, target};
 use generate::{
-    bytes, change_records, count_faults, decodable, longest, planted_stream, rules, well_formed,
-    with_rows, with_text, Leaning, Rng, Size,
+    bytes, change_records, count_faults, decodable, longest, longest_of_all, planted_stream, rules,
+    well_formed, with_rows, with_text, Leaning, Rng, Size,
 };
 use reference::{listing, Description};
 
@@ -89,6 +89,7 @@ pub fn compare(rng: &mut Rng, program: &Path) {
     runs.much_code();
     runs.gaps();
     runs.limits();
+    runs.targets();
     runs.generated();
     runs.larger();
     runs.avr();
@@ -258,8 +259,9 @@ impl Runs<'_> {
             let mut long = self.any_bytes(length);
             long[..2].copy_from_slice(&[0xff; 2]);
             self.one(&long);
-            // The description ends where the length says, or does not.
-            for end in [longest(), s.clone()] {
+            // The description ends where the length says, or does not; the longest
+            // has no length that says so.
+            for end in [longest(), longest_of_all(), s.clone()] {
                 let mut long = bytes(&end);
                 let length_field = (long.len() as u16).to_le_bytes();
                 long.splice(..0, length_field);
@@ -304,6 +306,15 @@ impl Runs<'_> {
             let d = with_rows(self.rng, 30 + i % 5);
             let code = self.code(&d, 60);
             self.listed(&bytes(&d), &code);
+        }
+    }
+
+    /// From address 0 on, so that the first ones back are below zero.
+    fn targets(&mut self) {
+        self.kind = "branch targets";
+        for _ in 0..20 {
+            let code = self.code(&target(), 300);
+            self.listed(&bytes(&target()), &code);
         }
     }
 

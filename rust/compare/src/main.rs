@@ -6,6 +6,7 @@ mod agreed;
 mod avr;
 mod check;
 mod choosing;
+mod computed;
 mod decoding;
 mod instructions;
 mod lent;
@@ -41,6 +42,7 @@ fn main() {
     timed("text", || text::compare(&mut Rng::new(seed)));
     timed("sweep", || sweep::compare(&mut Rng::new(seed)));
     timed("list", || lines::compare(&mut Rng::new(seed)));
+    timed("operators", || computed::compare(&mut Rng::new(seed)));
     timed("AVR", avr::compare);
     timed("listing", || {
         listing::compare(&mut Rng::new(seed), &program)

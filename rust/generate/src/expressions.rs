@@ -7,8 +7,9 @@ use crate::operators::near_power;
 use crate::write::LIMITS;
 use crate::Rng;
 
-/// The most expressions that a description is given, so that it can be listed.
-const MOST: usize = 40;
+/// The most computed operands that a description is given, so that it can be
+/// listed.
+const MOST: usize = 32;
 
 /// An expression of so many steps (1 to 16) whose operands are some of these.
 pub fn some_expression(rng: &mut Rng, operands: &[u8], steps: usize) -> Expression {
@@ -91,8 +92,10 @@ pub fn some_steps(rng: &mut Rng) -> usize {
 }
 
 /// Puts computed operands in the place of some field operands of a well-formed
-/// description, which stays so; with them come records that nobody uses.
+/// description, which stays so; with them come records that nobody uses. It has
+/// no expressions before: one might name a field that is replaced.
 pub fn compute_some(rng: &mut Rng, d: &mut Description) {
+    assert!(d.expressions.is_empty());
     let one_in = rng.pick(&[2, 4, 8]);
     let mut computed = Vec::new();
     for record in 0..d.operands.len() {

@@ -11,37 +11,18 @@ use crate::tree::Verdict;
 #[derive(Clone, Copy, Debug, PartialEq, Eq)]
 pub enum Refusal {
     Malformed(Fault),
-    Short {
-        place: usize,
-    },
-    NoMatch {
-        place: usize,
-        table: u32,
-    },
-    Ambiguous {
-        place: usize,
-        table: u32,
-    },
-    Hole {
-        place: usize,
-    },
-    TooFar {
-        place: usize,
-    },
+    Short { place: usize },
+    NoMatch { place: usize, table: u32 },
+    Ambiguous { place: usize, table: u32 },
+    Hole { place: usize },
+    TooFar { place: usize },
     TooManyRows,
     RootLengthZero,
     LentTooShort,
     TextTooLong,
-    BadTree {
-        node: u16,
-    },
-    NoTable {
-        table: u32,
-    },
-    /// A computed value, or one on the way to it, does not fit 64 bits.
-    Outside {
-        place: usize,
-    },
+    BadTree { node: u16 },
+    NoTable { table: u32 },
+    Outside { place: usize },
 }
 
 impl From<Fault> for Refusal {

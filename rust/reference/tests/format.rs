@@ -1,9 +1,11 @@
-//! What docs/FORMAT.md says: S and a tree byte by byte, mistakes and their
-//! faults, and its examples.
+//! What docs/FORMAT.md says: S, a tree and an expression byte by byte, mistakes
+//! and their faults, and its examples.
 
 use generate::bytes;
-use generate::example::{constructor, description_s, field, name, operand, tree_of, TABLE_1};
-use reference::{check, decode, tree_check, Description, Fault, Field, Refusal, Verdict};
+use generate::example::{
+    constructor, description_s, expression, field, name, operand, step, tree_of, TABLE_1,
+};
+use reference::{check, decode, tree_check, Description, Fault, Field, Refusal, Step, Verdict};
 
 const FORMAT: &str = include_str!("../../../docs/FORMAT.md");
 
@@ -60,6 +62,23 @@ fn a_tree_byte_by_byte() {
         Ok(Verdict::Rejected { node, bytes, .. }) => assert_eq!((node, bytes[0]), (13, 0x1f)),
         other => panic!("{other:?}"),
     }
+}
+
+#[test]
+fn an_expression_byte_by_byte() {
+    let mut listed = listed_bytes("7 Expression");
+    listed.resize(145, 0);
+    let mut d = description_s();
+    d.expressions.push(expression(&[
+        step(Step::ADDRESS_AFTER, 0),
+        step(Step::OPERAND, 1),
+        step(Step::CONSTANT, 2),
+        step(Step::TIMES, 0),
+        step(Step::PLUS, 0),
+    ]));
+    let written = bytes(&d);
+    assert_eq!(written[written.len() - 145..], listed);
+    assert!(check(&written).is_ok());
 }
 
 /// S after changes.

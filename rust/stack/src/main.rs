@@ -6,7 +6,7 @@ mod nested;
 mod painted;
 
 use dookerand::{Answer, LINE};
-use generate::{bytes, deep_tree, longest, tree_bytes, Rng};
+use generate::{bytes, deep_tree, longest_of_all, tree_bytes, Rng};
 
 use nested::{nested, Inner};
 use painted::used;
@@ -67,26 +67,26 @@ fn main() {
 
 fn decode(description: &[u8]) -> usize {
     let mut rows = [0; ROWS];
-    of(|| dookerand::decode(description, 0, &CODE, &mut rows))
+    of(|| dookerand::decode(description, 0, 0, &CODE, &mut rows))
 }
 
 fn text(description: &[u8]) -> usize {
     let mut text = [0; TEXT];
-    of(|| dookerand::text(description, 0, &CODE, &mut text))
+    of(|| dookerand::text(description, 0, 0, &CODE, &mut text))
 }
 
 fn sweep(description: &[u8]) -> usize {
     let mut rows = [0; ROWS];
-    of(|| dookerand::sweep(description, 0, &CODE, &mut rows))
+    of(|| dookerand::sweep(description, 0, 0, &CODE, &mut rows))
 }
 
 fn list(description: &[u8]) -> usize {
     let mut text = [0; LINE];
-    of(|| dookerand::list_answer(description, 0, &CODE, 0, &mut text))
+    of(|| dookerand::list_answer(description, 0, 0, &CODE, 0, &mut text))
 }
 
 fn others() -> [(&'static str, usize); 5] {
-    let (avr, longest) = (avr::description(), bytes(&longest()));
+    let (avr, longest) = (avr::description(), bytes(&longest_of_all()));
     let d = reference::check(&avr).expect("it is well formed");
     let root = d.root();
     let (deep, _) = deep_tree(&mut Rng::new(1), &d, root).expect("the root's tree is small");

@@ -20,7 +20,9 @@ use Rattle.instructions.proofs.decode_at.Reads as decode-at-reads
 
 -- the instruction at the code's start
 found : (c : tie.After-decode-at)
-    → c .decode-at .result ≡ instructionAs (instructionOf (description (c .before .before .before .before .before .args .desc .now) (c .before .before .before .before .before .args .layout)) (c .before .before .before .before .before .args .context) (c .before .before .before .before .before .args .address) (c .before .before .before .before .before .args .code .now))
+    → let start = c .before .before .before .before .before .args in
+    c .decode-at .result
+    ≡ instructionAs (instructionOf (description (start .desc .now) (start .layout)) (start .context) (start .address) (start .code .now))
 found c = c .decode-at .ensures .0 ∙ ap instructionAs (first-here _ _ _ _ false _ _ (c .before .before .fill .ensures))
 
 fill-requires : tie.Need-fill-requires

@@ -37,7 +37,7 @@ put-line-requires c κs =
 returns : tie.Need-returns
 returns c =
     let earlier = c .before .before .before .before .before in (
-      line-made _ _ _ _ _ _ _ _ (put-taken _ _ _ _ (earlier .show .ensures .text)) (c .before .put-line .ensures) (earlier .show .ensures .next),
+      line-made _ _ _ _ _ _ _ _ _ (put-taken _ _ _ _ (earlier .show .ensures .text)) (c .before .put-line .ensures) (earlier .show .ensures .next),
       earlier .show .ensures .told,
     )
 
@@ -47,6 +47,7 @@ line-at-spec =
     (tie.spec
     slice-aggregate-show
     show-requires
+    (λ c. search needs)
     array-share-prefix-shown
     slice-aggregate-put-line
     slice-aggregate-put-line-2

@@ -1,4 +1,5 @@
 -- `listing_lines::put_fault` meets its contract. Assumes nothing.
+use mathlib.Core.Logic.{inl}
 use mathlib.Core.Path.{_≡_, refl, sym, ap, _∙_}
 use native.Mathlib.Omega.{arith}
 use lib.ListN.{length}
@@ -21,7 +22,7 @@ append-requires : tie.Need-append-requires
 append-requires c κs = search needs
 
 append-number-requires : tie.Need-append-number-requires
-append-number-requires c κs = search needs
+append-number-requires c κs = (inl refl, search needs)
 
 slice-aggregate-append-2 : tie.Need-slice-aggregate-append-2
 slice-aggregate-append-2 c = search needs
@@ -30,13 +31,13 @@ append-requires-2 : tie.Need-append-requires-2
 append-requires-2 c κs =
     let earlier = c .before .before .before .before .before .before .before .before in
     let earliest = earlier .before .before .before .before in
-    rw (c .before .before .before .before .append-number .kept .1 .0, earlier .append .kept .1 .0) (omega (arith, earliest .pre, earlier .append .ensures .size, c .before .before .before .before .append-number .ensures .size, digits-length 10 (earliest .args .first)))
+    rw (c .before .before .before .before .append-number .kept .1 .1 .0, earlier .append .kept .1 .0) (omega (arith, earliest .pre, earlier .append .ensures .size, c .before .before .before .before .append-number .ensures .size, digits-length 10 (earliest .args .first)))
 
 append-number-requires-2 : tie.Need-append-number-requires-2
 append-number-requires-2 c κs =
     let earlier = c .before .before .before .before .before .before .before .before in
     let earliest = earlier .before .before .before .before in
-    rw (c .before .before .before .append2 .kept .1 .0, earlier .append-number .kept .1 .0, earliest .append .kept .1 .0) (omega (arith, earliest .before .before .before .before .pre, earliest .append .ensures .size, earlier .append-number .ensures .size, c .before .before .before .append2 .ensures .size, digits-length 10 (earliest .before .before .before .before .args .first)))
+    (inl refl, rw (c .before .before .before .append2 .kept .1 .0, earlier .append-number .kept .1 .1 .0, earliest .append .kept .1 .0) (omega (arith, earliest .before .before .before .before .pre, earliest .append .ensures .size, earlier .append-number .ensures .size, c .before .before .before .append2 .ensures .size, digits-length 10 (earliest .before .before .before .before .args .first))))
 
 slice-aggregate-append-3 : tie.Need-slice-aggregate-append-3
 slice-aggregate-append-3 c = search needs
@@ -45,7 +46,7 @@ append-requires-3 : tie.Need-append-requires-3
 append-requires-3 c κs =
     let earlier = c .before .before .before .before .before .before .before .before .before .before .before in
     let earliest = earlier .before .before .before .before .before .before in
-    rw (c .before .before .before .before .append-number2 .kept .1 .0, c .before .before .before .before .before .before .before .before .append2 .kept .1 .0, earlier .before .before .append-number .kept .1 .0, earliest .append .kept .1 .0)
+    rw (c .before .before .before .before .append-number2 .kept .1 .1 .0, c .before .before .before .before .before .before .before .before .append2 .kept .1 .0, earlier .before .before .append-number .kept .1 .1 .0, earliest .append .kept .1 .0)
     (omega (arith, earliest .before .before .before .before .pre, earliest .append .ensures .size, earlier .before .before .append-number .ensures .size, c .before .before .before .before .before .before .before .before .append2 .ensures .size, c .before .before .before .before .append-number2 .ensures .size, digits-length 10 (earliest .before .before .before .before .args .first), digits-length 10 (earliest .before .before .before .before .args .second)))
 
 same-length : tie.Need-same-length

@@ -1,60 +1,63 @@
 -- `listing_lines::put_line` meets its contract. Assumes nothing.
 use borrow.Author.Needs.{needs}
-use mathlib.Core.Path.{_≡_, ap, _∙_}
+use mathlib.Core.List.{[], _∷_, _++_}
 use native.Mathlib.Omega.{arith}
 use lib.ListN.{length, length-append}
-use Rattle.listing_lines.specs.Line.{lineText}
-use Rattle.listing_lines.proofs.Appending.{put-first, put-more, address-long}
+use Rattle.listing_lines.specs.Line.{addressText, lineText}
+use Rattle.listing_lines.proofs.Appending.{put-more, address-long}
 use Rattle.listing_lines.proofs.put_line.Statement.{statement}
 use Rattle.listing_lines.proofs.put_line.Tie as tie
-use Rattle.listing_lines.proofs.put_line.Reads as reads
-use Rattle.listing_lines.proofs.put_line.Lts as lts
-use Rattle.listing_lines.proofs.address.Reads as address-reads
-use Rattle.listing_lines.proofs.append.Reads as append-reads
 
-address-requires : tie.Need-address-requires
-address-requires c κs = search needs
-
-slice-aggregate-append : tie.Need-slice-aggregate-append
-slice-aggregate-append c = search needs
+put-address-requires : tie.Need-put-address-requires
+put-address-requires c κs = search needs
 
 append-requires : tie.Need-append-requires
-append-requires c κs = search needs
+append-requires c κs =
+    let first = c .before .before .before .before in
+    let start = first .before .before .before .before in
+    rw (first .put-address .kept .1 .0) (omega (arith, first .put-address .ensures .size, address-long (start .args .here)))
 
 append-requires-2 : tie.Need-append-requires-2
-append-requires-2 c κs = search needs
-
-slice-aggregate-append-2 : tie.Need-slice-aggregate-append-2
-slice-aggregate-append-2 c = search needs
+append-requires-2 c κs =
+    let second = c .before .before .before in
+    let first = second .before .before .before .before .before in
+    let start = first .before .before .before .before in
+    rw (second .append .kept .1 .0, first .put-address .kept .1 .0)
+    (omega (arith, first .put-address .ensures .size, second .append .ensures .size, address-long (start .args .here)))
 
 append-requires-3 : tie.Need-append-requires-3
-append-requires-3 c κs = search needs
-
-same-length : tie.Need-same-length
-same-length c = search needs
+append-requires-3 c κs =
+    let third = c .before .before .before .before in
+    let second = third .before .before .before .before in
+    let first = second .before .before .before .before .before in
+    let start = first .before .before .before .before in
+    rw (third .append2 .kept .1 .0, second .append .kept .1 .0, first .put-address .kept .1 .0)
+    (omega (arith, first .put-address .ensures .size, second .append .ensures .size, third .append2 .ensures .size, address-long (start .args .here)))
 
 returns : tie.Need-returns
 unfolding lineText
 returns c =
-    let earlier = c .before .before .before .before .before .before .before .before .before .before .before in
-    let earliest = earlier .before .before .before in
-    let start = earliest .before .before .before in
-    let head = earliest .address .result in
-    let long : length head ≡ 10 = ap length (earliest .address .ensures) ∙ address-long (start .args .at) in
-    rw (earliest .address .ensures) at
-    (put-more _ _ _ _ _ _ _
-    (put-more _ _ _ _ _ _ _ (put-first head (start .args .line .now) _ _ (omega arith) (earlier .append .ensures)) (omega arith) (c .before .before .before .before .before .before .before .append2 .ensures))
-    (omega (arith, length-append head (start .args .shown .now))) (c .before .before .append3 .ensures))
+    let third = c .before .before .before .before .before .before .before in
+    let second = third .before .before .before .before in
+    let first = second .before .before .before .before .before in
+    let start = first .before .before .before .before in
+    let few = address-long (start .args .here) in
+    let a = first .put-address .ensures in
+    let b = put-more (addressText (start .args .here)) (58 ∷ 32 ∷ []) _ _ _ _ _ a (omega arith) (second .append .ensures) in
+    let d = put-more _ (start .args .shown .now) _ _ _ _ _ b (omega (arith, length-append (addressText (start .args .here)) (58 ∷ 32 ∷ []))) (third .append2 .ensures) in
+    put-more _ (10 ∷ []) _ _ _ _ _ d
+    (omega (arith, length-append (addressText (start .args .here)) (58 ∷ 32 ∷ []), length-append (addressText (start .args .here) ++ (58 ∷ 32 ∷ [])) (start .args .shown .now)))
+    (c .before .before .append3 .ensures)
 
 pub put-line-spec : {M : Type 1} → statement M
 put-line-spec =
     tie.close
     (tie.spec
-    address-requires
-    slice-aggregate-append
+    put-address-requires
+    (λ c. search needs)
     append-requires
     append-requires-2
-    slice-aggregate-append-2
+    (λ c. search needs)
     append-requires-3
-    same-length
+    (λ c. search needs)
     returns)

@@ -8,7 +8,6 @@ use Rattle.listing_lines.proofs.show.Reads as reads
 use Rattle.listing_lines.proofs.show.Lts as lts
 use Rattle.listing_lines.proofs.show_refusal.Reads as show-refusal-reads
 use Rattle.listing_lines.proofs.show_text.Reads as show-text-reads
-use Rattle.walking.proofs.decode_at.Reads as decode-at-reads
 
 decode-at-requires : tie.Need-decode-at-requires
 decode-at-requires c κs =
@@ -36,14 +35,14 @@ show-text-requires c κs =
     let earliest = earlier .before .before in
     let start = earliest .before .before .before .before .before in
     let told = earliest .decode-at .ensures .1 in
-    ((fixed-there _ _ _ 0 _ (start .pre .0) _ told, start .pre .1), rows-there _ _ _ _ _ (start .pre .0) _ told _ (earliest .decode-at .ensures .0) _ _ (earlier .walked2 .given .1))
+    ((fixed-there _ _ _ 0 0 _ (start .pre .0) _ told, start .pre .1), rows-there _ _ _ _ _ _ (start .pre .0) _ told _ (earliest .decode-at .ensures .0) _ _ (earlier .walked2 .given .1))
 
-add-t26 : tie.Need-add-t26
-add-t26 c =
+add-t27 : tie.Need-add-t27
+add-t27 c =
     let earlier = c .before .before .before .before .before .before .before .before in
     let earliest = earlier .before .before in
     let start = earliest .before .before .before .before .before in
-    omega (arith, next-fits _ _ _ _ _ (start .pre .0) _ (earliest .decode-at .ensures .1) _ (earliest .decode-at .ensures .0) _ _ (earlier .walked2 .given .1))
+    omega (arith, next-fits _ _ _ _ _ _ (start .pre .0) _ (earliest .decode-at .ensures .1) _ (earliest .decode-at .ensures .0) _ _ (earlier .walked2 .given .1))
 
 same-length : tie.Need-same-length
 same-length c = search needs
@@ -52,7 +51,7 @@ returns : tie.Need-returns
 returns c =
     let earlier = c .before .before .before .before .before .before in
     let earliest = earlier .before .before in
-    shows-refusal _ _ _ _ _ (earliest .before .before .before .before .before .pre .0) _ (earliest .decode-at .ensures .1) _ (earliest .decode-at .ensures .0) _ (earlier .walked .given .1) _ _ _
+    shows-refusal _ _ _ _ _ _ (earliest .before .before .before .before .before .pre .0) _ (earliest .decode-at .ensures .1) _ (earliest .decode-at .ensures .0) _ (earlier .walked .given .1) _ _ _
     (c .before .before .show-refusal .ensures .0) (c .before .before .show-refusal .ensures .1)
 
 same-length-2 : tie.Need-same-length-2
@@ -62,7 +61,7 @@ returns-2 : tie.Need-returns-2
 returns-2 c =
     let earlier = c .before .before .before .before .before .before .before .before in
     let earliest = earlier .before .before in
-    shows-text _ _ _ _ _ (earliest .before .before .before .before .before .pre .0) _ (earliest .decode-at .ensures .1) _ (earliest .decode-at .ensures .0) _ _ (earlier .walked2 .given .1) _ _ _
+    shows-text _ _ _ _ _ _ (earliest .before .before .before .before .before .pre .0) _ (earliest .decode-at .ensures .1) _ (earliest .decode-at .ensures .0) _ _ (earlier .walked2 .given .1) _ _ _
     (c .before .before .show-text .ensures)
 
 pub show-spec : {M : Type 1} → statement M
@@ -76,7 +75,7 @@ show-spec =
     enum-known-walked-2
     slice-aggregate-show-text
     show-text-requires
-    add-t26
+    add-t27
     same-length
     returns
     same-length-2

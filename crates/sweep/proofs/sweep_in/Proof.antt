@@ -1,5 +1,5 @@
 -- `sweep::sweep_in` meets its contract. Assumes nothing.
-use Prim.Native.Nat.{_-_, _/_}
+use Prim.Native.Nat.{_-_, _/_, _^_, _<_}
 use mathlib.Core.Path.{_≡_, sym, _∙_}
 use native.Mathlib.Omega.{arith}
 use borrow.Author.Needs.{needs}
@@ -74,14 +74,21 @@ fits c =
     let test = c .before .before .before .before .before in
     row-fits _ _ _ _ _ _ _ _ _ _ _ (test .before .loop .inv) _ _ _ (sym (c .before .before .step-at .ensures .0) ∙ c .found .given .1) (test .loop-test .taken)
 
+-- the code and the lent rows fit the memory
+bytes-fit : (c : tie.At-loop Inv-loop μ-loop) → length (c .before .before .before .before .args .code .now) < 2 ^ 63
+bytes-fit c = let z = c .before .before .before .before .good .1 .1 .1 .1 .0 in omega arith
+
+rows-fit : (c : tie.At-loop Inv-loop μ-loop) → length (c .before .before .before .before .args .rows .now) < 2 ^ 63
+rows-fit c = let z = c .before .before .before .before .good .1 .1 .1 .1 .1 in omega arith
+
 put-row-requires : tie.Need-put-row-requires Inv-loop μ-loop
 put-row-requires c κs =
     let earlier = c .before .before .before .before .before .before in
-    let start = earlier .before .before .before .before .before .before in
+    let short = bytes-fit (earlier .before .before) in
     let f = fits (c .before .before) in
     let turn = earlier .before .before .loop .inv .progress in (
       omega (arith, long _ _ _ _ _ _ _ _ _ turn, turn .lent, turn .few, earlier .if1 .left),
-      (omega (arith, turn .inside, start .good .1 .1 .1 .1), omega (arith, f .here, start .good .1 .1 .1 .1), omega (arith, f .small)),
+      (omega (arith, turn .inside, short), omega (arith, f .here, short), omega (arith, f .small)),
     )
 
 add-at : tie.Need-add-at Inv-loop μ-loop
@@ -91,7 +98,7 @@ add-n : tie.Need-add-n Inv-loop μ-loop
 add-n c =
     let loop = c .before .before .before .before .before .before .before .before .before .before in
     let turn = loop .loop .inv .progress in
-    omega (arith, turn .few, turn .lent, loop .before .before .before .before .good .1 .1 .1 .1)
+    omega (arith, turn .few, turn .lent, rows-fit loop)
 
 loop-less : tie.Need-loop-less Inv-loop μ-loop
 loop-less c = let f = fits (c .before .before .before .before) in omega (arith, f .some, f .here)

@@ -38,7 +38,7 @@ array-share-prefix-text : tie.Need-array-share-prefix-text
 array-share-prefix-text c = search needs
 
 slice-aggregate-line-2 : tie.Need-slice-aggregate-line-2
-slice-aggregate-line-2 c = sym (length-take-le _ _ (rw (c .before .before .before .before .before .before .before .before .before .decode-text .kept .1 .1 .1 .0) (c .before .if1 .taken)))
+slice-aggregate-line-2 c = sym (length-take-le _ _ (rw (c .before .before .before .before .before .before .before .before .before .decode-text .kept .1 .1 .1 .1 .0) (c .before .if1 .taken)))
 
 line-requires-3 : tie.Need-line-requires-3
 line-requires-3 c κs = search needs

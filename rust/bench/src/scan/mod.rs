@@ -1,12 +1,15 @@
 //! The simplest fast decoder over a parsed description: it scans every
-//! constructor of a table by whole words, makes nothing on the heap, and
-//! answers as the rules say. What the proved library is measured by.
+//! constructor of a table by whole words, makes nothing on the heap but a list
+//! of computed operands, and answers as the rules say. What the proved library
+//! is measured by.
 
 mod choose;
+mod compute;
 
-use reference::{Constructor, Description, Field, Operand};
+use reference::{Constructor, Description, Expression, Field, Operand};
 
 use choose::{Choice, Patterns};
+pub use compute::{value, Terms};
 
 /// The most tables, operands of a constructor, rows and bytes of an
 /// instruction.
@@ -28,8 +31,9 @@ const HOLE: u8 = 5;
 const TOO_FAR: u8 = 6;
 const TOO_MANY_ROWS: u8 = 7;
 const ROOT_LENGTH_ZERO: u8 = 8;
+const OUTSIDE: u8 = 13;
 
-/// An answer from 2 to 8 with its place and table.
+/// An answer from 2 to 8, or 13, with its place and table.
 #[derive(Clone, Copy, Debug, PartialEq, Eq)]
 pub struct Refusal {
     pub number: u8,
@@ -53,6 +57,9 @@ pub struct Scan<const GROUP: usize> {
     constructors: Vec<Constructor>,
     operands: Vec<Operand>,
     fields: Vec<Field>,
+    expressions: Vec<Expression>,
+    /// For each constructor, whether it has a computed operand.
+    computes: Vec<bool>,
     holes: Vec<bool>,
     /// Where each table's constructors start; the next one's start is its end.
     firsts: [usize; TABLES + 1],
@@ -81,9 +88,23 @@ impl Rows for [i64; ROOM] {
 
 struct Walk<'a, R> {
     context: u32,
+    address: i64,
     code: &'a [u8],
     used: usize,
     rows: &'a mut R,
+    /// In the order of the rows; empty before the walk.
+    computed: &'a mut Vec<Computed>,
+}
+
+/// A computed operand, whose value needs the root's length.
+struct Computed {
+    row: usize,
+    /// Its constructor's row.
+    user: usize,
+    expression: u8,
+    start: usize,
+    /// The values of its constructor's field operands.
+    operands: [i64; OPERANDS],
 }
 
 impl<const GROUP: usize> Scan<GROUP> {
@@ -98,6 +119,8 @@ impl<const GROUP: usize> Scan<GROUP> {
             constructors: d.constructors.clone(),
             operands: d.operands.clone(),
             fields: d.fields.clone(),
+            expressions: d.expressions.clone(),
+            computes: d.constructors.iter().map(|c| computes(d, c)).collect(),
             holes: d.names.iter().map(|name| name.length == 0).collect(),
             firsts: std::array::from_fn(first),
             root: d.root() as u8,
@@ -109,14 +132,17 @@ impl<const GROUP: usize> Scan<GROUP> {
     pub fn decode(
         &self,
         context: u32,
+        address: u32,
         code: &[u8],
         rows: &mut [i64; ROOM],
     ) -> Result<usize, Refusal> {
         let mut walk = Walk {
             context,
+            address: address.into(),
             code,
             used: 0,
             rows,
+            computed: &mut Vec::new(),
         };
         self.instruction(&mut walk)?;
         Ok(walk.used)
@@ -124,9 +150,16 @@ impl<const GROUP: usize> Scan<GROUP> {
 
     /// Sweeps the code into rows, and gives the end, the rows written and the
     /// next byte.
-    pub fn sweep(&self, context: u32, code: &[u8], lent: &mut [i64]) -> (End, usize, usize) {
+    pub fn sweep(
+        &self,
+        context: u32,
+        address: u32,
+        code: &[u8],
+        lent: &mut [i64],
+    ) -> (End, usize, usize) {
         let (mut rows, _) = lent.as_chunks_mut::<ROW_NUMBERS>();
         let (mut written, mut next) = (0, 0);
+        let mut computed = Vec::new();
         loop {
             if next == code.len() {
                 return (End::Used, written, next);
@@ -134,11 +167,14 @@ impl<const GROUP: usize> Scan<GROUP> {
             let Some((row, rest)) = rows.split_first_mut() else {
                 return (End::Full, written, next);
             };
+            computed.clear();
             let mut walk = Walk {
                 context,
+                address: i64::from(address) + next as i64,
                 code: &code[next..],
                 used: 0,
                 rows: &mut NoRows,
+                computed: &mut computed,
             };
             let (length, answer, constructor) = match self.instruction(&mut walk) {
                 Ok((constructor, length)) => (length, 0, constructor as i64),
@@ -154,10 +190,22 @@ impl<const GROUP: usize> Scan<GROUP> {
 
     /// The root's constructor and length.
     fn instruction<R: Rows>(&self, walk: &mut Walk<R>) -> Result<(usize, usize), Refusal> {
-        match self.table(walk, self.root, 0)? {
-            (_, 0) => Err(refusal(ROOT_LENGTH_ZERO, 0)),
-            root => Ok(root),
+        let root = self.table(walk, self.root, 0)?;
+        if root.1 == 0 {
+            return Err(refusal(ROOT_LENGTH_ZERO, 0));
         }
+        for computed in walk.computed.iter() {
+            let terms = Terms {
+                address: walk.address,
+                address_after: walk.address + root.1 as i64,
+                operands: computed.operands,
+            };
+            let expression = &self.expressions[usize::from(computed.expression)];
+            let value = value(expression, &terms).ok_or(refusal(OUTSIDE, computed.start))?;
+            let numbers = [3, computed.expression.into(), computed.start as i64, value];
+            walk.rows.put(computed.row, numbers);
+        }
+        Ok(root)
     }
 
     /// The constructor taken and its end.
@@ -181,6 +229,7 @@ impl<const GROUP: usize> Scan<GROUP> {
             let at = anchors[usize::from(operand.anchor)] + usize::from(operand.offset);
             let operand_end = match operand.kind {
                 Operand::TABLE => self.table(walk, operand.index, at)?.1,
+                Operand::COMPUTED => walk.computed(row, operand.index, at)?,
                 _ => self.field(walk, operand.index, at)?,
             };
             anchors[i + 1] = operand_end;
@@ -192,9 +241,33 @@ impl<const GROUP: usize> Scan<GROUP> {
         if end > walk.code.len() {
             return Err(refusal(SHORT, start));
         }
+        if self.computes[chosen] {
+            self.name_operands(walk, row, operands, &anchors);
+        }
         let numbers = [0, chosen as i64, start as i64, (end - start) as i64];
         walk.rows.put(row, numbers);
         Ok((chosen, end))
+    }
+
+    /// Gives a constructor's computed operands the values that they may name.
+    fn name_operands<R: Rows>(
+        &self,
+        walk: &mut Walk<R>,
+        row: usize,
+        operands: &[Operand],
+        anchors: &[usize; OPERANDS + 1],
+    ) {
+        let mut values = [0; OPERANDS];
+        for (i, operand) in operands.iter().enumerate() {
+            if operand.kind == Operand::FIELD {
+                let field = &self.fields[usize::from(operand.index)];
+                let start = anchors[usize::from(operand.anchor)] + usize::from(operand.offset);
+                let bytes = &walk.code[start..anchors[i + 1]];
+                values[i] = field_value(field, walk.context, bytes);
+            }
+        }
+        let own = walk.computed.iter_mut().filter(|c| c.user == row);
+        own.for_each(|computed| computed.operands = values);
     }
 
     #[inline(always)]
@@ -257,6 +330,27 @@ impl<R> Walk<'_, R> {
         self.used += 1;
         Ok(self.used - 1)
     }
+
+    /// A computed operand's end. It is never farther than its constructor.
+    fn computed(&mut self, user: usize, expression: u8, start: usize) -> Result<usize, Refusal> {
+        let row = self.next_row()?;
+        if start > self.code.len() {
+            return Err(refusal(SHORT, start));
+        }
+        self.computed.push(Computed {
+            row,
+            user,
+            expression,
+            start,
+            operands: [0; OPERANDS],
+        });
+        Ok(start)
+    }
+}
+
+fn computes(d: &Description, constructor: &Constructor) -> bool {
+    let mut operands = d.operands_of(constructor).iter();
+    operands.any(|operand| operand.kind == Operand::COMPUTED)
 }
 
 /// The field's bits out of its bytes, or out of the context.
@@ -287,7 +381,11 @@ fn refusal(number: u8, place: usize) -> Refusal {
 
 #[cfg(test)]
 mod tests {
-    use generate::{decodable, planted_stream, with_rows, Leaning, Rng, Size};
+    use generate::{
+        address, decodable, operators_on_addresses, operators_on_constants, planted_stream,
+        with_rows, Leaning, Rng, Size, EDGE_ADDRESSES,
+    };
+    use reference::Addresses;
 
     use super::*;
 
@@ -300,13 +398,13 @@ mod tests {
     };
 
     /// The answers to every tail of the code and to a sweep over all of it.
-    fn answers_alike<const GROUP: usize>(d: &Description, context: u32, code: &[u8]) {
+    fn answers_alike<const GROUP: usize>(d: &Description, context: u32, address: u32, code: &[u8]) {
         let scan = Scan::<GROUP>::new(d);
         for start in 0..=code.len() {
             let rest = &code[start..];
             let mut rows = [0; ROOM];
-            let found = scan.decode(context, rest, &mut rows);
-            match reference::decode(d, context, rest) {
+            let found = scan.decode(context, address, rest, &mut rows);
+            match reference::decode(d, context, address, rest) {
                 Ok(expected) => {
                     assert_eq!(found, Ok(expected.len()), "{d:?} {context} {rest:?}");
                     assert_eq!(rows[..4 * expected.len()], *expected.as_flattened());
@@ -325,8 +423,8 @@ mod tests {
         }
         for lent in [4 * code.len(), 2 * code.len() + 3, 0] {
             let mut rows = vec![0; lent];
-            let (end, written, next) = scan.sweep(context, code, &mut rows);
-            let expected = reference::sweep(d, context, code, lent / 4);
+            let (end, written, next) = scan.sweep(context, address, code, &mut rows);
+            let expected = reference::sweep(d, context, address, code, lent / 4);
             assert_eq!(format!("{end:?}"), format!("{:?}", expected.end));
             assert_eq!((written, next), (expected.rows.len(), expected.next));
             assert_eq!(rows[..4 * written], *expected.rows.as_flattened());
@@ -345,8 +443,29 @@ mod tests {
                 leaning => decodable(rng, SIZE, Leaning::ALL[leaning]),
             };
             let (code, context) = planted_stream(rng, &d, 60);
-            answers_alike::<1>(&d, context, &code);
-            answers_alike::<4>(&d, context, &code);
+            let address = address(rng);
+            answers_alike::<1>(&d, context, address, &code);
+            answers_alike::<4>(&d, context, address, &code);
+        }
+    }
+
+    /// Every operator on values at which something may change.
+    #[test]
+    fn evaluates_as_the_reference_does() {
+        let all = operators_on_constants().chain(operators_on_addresses());
+        for (i, expression) in all.enumerate() {
+            let address = u64::from(EDGE_ADDRESSES[i % EDGE_ADDRESSES.len()]);
+            let addresses = Addresses {
+                of: address,
+                after: address + 2,
+            };
+            let terms = Terms {
+                address: address as i64,
+                address_after: address as i64 + 2,
+                operands: [0; OPERANDS],
+            };
+            let expected = expression.value(addresses, |_| 0);
+            assert_eq!(value(&expression, &terms), expected, "{expression:?}");
         }
     }
 }

@@ -1,19 +1,18 @@
 use Prim.Native.Nat.{ℕ, _-_}
-use mathlib.Core.Logic.{inl}
-use mathlib.Core.Path.{_≡_, refl}
+use mathlib.Core.Path.{_≡_}
 use native.Mathlib.Omega.{arith}
 use lib.ListN.{take, drop, length-drop, length-replicate}
 use lib.Seq.{take-all}
 use borrow.Author.Needs.{needs}
-use Rattle.printing.proofs.put_decimal.Statement.{statement}
-use Rattle.printing.proofs.put_decimal.Tie as tie
-use Rattle.printing.proofs.put_decimal.Reads as reads
-use Rattle.printing.proofs.put_decimal.Lts as lts
+use Rattle.printing.proofs.put_plain.Statement.{statement}
+use Rattle.printing.proofs.put_plain.Tie as tie
+use Rattle.printing.proofs.put_plain.Reads as reads
+use Rattle.printing.proofs.put_plain.Lts as lts
 use Rattle.printing.proofs.put_bytes.Reads as put-bytes-reads
 use Rattle.printing.proofs.put_digits.Reads as put-digits-reads
 
 put-digits-requires : tie.Need-put-digits-requires
-put-digits-requires c κs = (length-replicate {A = ℕ} 23 0, inl refl)
+put-digits-requires c κs = (length-replicate {A = ℕ} 23 0, search needs)
 
 sub-put-bytes : tie.Need-sub-put-bytes
 sub-put-bytes c = search needs
@@ -39,8 +38,8 @@ returns c =
     let part : take (23 - at) (drop at text) ≡ drop at text = take-all (23 - at) (drop at text) (omega (arith, length-drop at text, w .long)) in
     rw (part, w .is) at (c .before .before .put-bytes .ensures)
 
-pub put-decimal-spec : {M : Type 1} → statement M
-put-decimal-spec =
+pub put-plain-spec : {M : Type 1} → statement M
+put-plain-spec =
     tie.close
     (tie.spec
     put-digits-requires
