@@ -2,6 +2,5 @@
 pub mod Numbers
 mod Answers
 pub mod Facts
-pub mod Addresses
 pub mod Counts
 pub mod Signed

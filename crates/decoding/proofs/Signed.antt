@@ -4,14 +4,12 @@ use mathlib.Core.Bool.{Bool, true, false, cond}
 use mathlib.Core.List.{List, [], _∷_, _++_}
 use mathlib.Core.Path.{_≡_, refl}
 use native.Mathlib.Omega.{arith}
-use borrow.Author.Tests.{leb-true}
 use lib.Dec.{leb}
 use lib.IntN.{ℤ, pos}
 use lib.ListN.{length, getD, drop, List·getD-append}
-use Rattle.lists.proofs.Bools.{and4}
-use Rattle.format.specs.Numbers.{rowNumbers, mostSteps}
+use Rattle.format.specs.Numbers.{rowNumbers}
 use Rattle.format.specs.Description.{Description, description, noField}
-use Rattle.format.specs.Expression.{Expression, noExpression, stepsOk, restEmpty, writesExpression}
+use Rattle.format.specs.Expression.{noExpression}
 use Rattle.format.specs.Rules.{bitsOf}
 use Rattle.format.specs.declared.Constructor.{Constructor}
 use Rattle.format.specs.declared.Layout.{Layout}
@@ -23,6 +21,7 @@ use Rattle.fields.proofs.Signs.{number-fits}
 use Rattle.fields.proofs.Values.{readable, bits-some, value-small}
 use Rattle.whole_numbers.specs.Range.{inside}
 use Rattle.whole_numbers.proofs.Kept.{mag-inside}
+use Rattle.expressions.proofs.Records.{written}
 use Rattle.expressions.proofs.Values.{value-inside}
 use Rattle.acceptance.specs.Acceptance.{acceptanceOf, accepting}
 use Rattle.acceptance.specs.declared.Acceptance.{Acceptance}
@@ -51,11 +50,6 @@ record Signed (r : Row) : Type 0 where
 
 natural : (n : ℕ) → n < 2 ^ 63 → inside (pos n) ≡ true
 natural n h = mag-inside (pos n) h
-
--- an expression has a step
-some : (e : Expression) → writesExpression e ≡ true → 1 ≤ e .count
-unfolding writesExpression
-some e w = leb-true 1 (e .count) (and4 (leb 1 (e .count)) (leb (e .count) mostSteps) (stepsOk e) (restEmpty e) w .0)
 
 module _ (d : Description) (o : RulesHold d) (few : Few d) (input : List ℕ) (here after : ℕ) where
   -- field i's value, of at most 32 bits
@@ -107,7 +101,7 @@ module _ (d : Description) (o : RulesHold d) (few : Few d) (input : List ℕ) (h
             kind = omega arith;
             number = omega (arith, h .0, few .expressions);
             start = omega (arith, r .fits .near);
-            last = value-inside _ e v (some e (expression-ok d o i (h .0))) w;
+            last = value-inside _ e v (written e (expression-ok d o i (h .0)) .some) w;
           },
           tt,
         )

@@ -50,7 +50,7 @@ field-placed d x e z =
     (and-left (ltb (x .index) (length (d .fields)))
     (not (eqb (getD (d .fields) (x .index) noField .source) 1) || (eqb (x .anchor) 0 && eqb (x .offset) 0)) fits)
 
-expression-placed : (d : Description) (x : Operand) → operandOk (d .fields) (length (d .expressions)) x ≡ true → x .kind ≡ 2
+pub expression-placed : (d : Description) (x : Operand) → operandOk (d .fields) (length (d .expressions)) x ≡ true → x .kind ≡ 2
     → x .index < length (d .expressions)
 expression-placed d x e z =
     let fits : computedFits (length (d .expressions)) x ≡ true = simp z at (kind-ok d x e) in

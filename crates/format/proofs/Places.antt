@@ -92,6 +92,9 @@ expressions-keeps b l m at r e =
       expressions = expressions .placed .fits;
       some = r .some;
       few = r .few;
+      fewFields = r .fewFields;
+      fewNames = r .fewNames;
+      fewExpressions = expressions .placed .few;
     })
     (expressions .rest)
 
@@ -116,5 +119,8 @@ laid-room b l e =
       expressions = omega arith;
       some = constructors .placed .enough;
       few = constructors .placed .few;
+      fewFields = fields .placed .few;
+      fewNames = names .placed .few;
+      fewExpressions = omega arith;
     })
     (text .rest)

@@ -98,7 +98,8 @@ layoutOf b = section b 1 0 mostFields fieldBytes putFields (namesFrom b) unlaid 
 abbrev pub inside : List ℕ → ℕ → Section → Type 0
 inside b size s = s .start + size * s .count ≤ length b
 
--- each section lies inside the bytes, there is a constructor and not too many: what layoutOf shows of the places that it gives
+-- each section lies inside the bytes, there is a constructor, and no section that a row's number names has too many records: what
+-- layoutOf shows of the places that it gives
 pub record SectionsInBounds (b : List ℕ) (l : Layout) : Type 0 where
   pub fields : inside b fieldBytes (l .fields)
   pub names : inside b nameBytes (l .names)
@@ -109,3 +110,6 @@ pub record SectionsInBounds (b : List ℕ) (l : Layout) : Type 0 where
   pub expressions : inside b expressionBytes (l .expressions)
   pub some : 1 ≤ l .constructors .count
   pub few : l .constructors .count ≤ mostConstructors
+  pub fewFields : l .fields .count ≤ mostFields
+  pub fewNames : l .names .count ≤ mostNames
+  pub fewExpressions : l .expressions .count ≤ mostExpressions

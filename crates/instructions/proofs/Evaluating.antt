@@ -17,6 +17,7 @@ use Rattle.whole_numbers.specs.declared.Whole.{Whole}
 use Rattle.whole_numbers.specs.declared.Whole.the-variants as whole
 use Rattle.whole_numbers.proofs.Kept.{inside-mag}
 use Rattle.expressions.specs.Value.{given, valueOf, numbered, Usable}
+use Rattle.expressions.proofs.Records.{written}
 use Rattle.expressions.proofs.Values.{value-inside}
 use Rattle.decoding_spec.specs.Instruction.{Valued, valued, outside, whereInside}
 use Rattle.decoding_theorems.proofs.Records.{expression-ok}
@@ -40,11 +41,6 @@ counts-length d rows row end (suc left) = go (ltb row end) (counts-length d rows
     go true a b = ap suc a
     go false a b = ap suc b
 
--- an expression has a step
-some : (e : Expression) → writesExpression e ≡ true → 1 ≤ e .count
-unfolding writesExpression
-some e w = leb-true 1 (e .count) (and4 (leb 1 (e .count)) (leb (e .count) mostSteps) (stepsOk e) (restEmpty e) w .0)
-
 module _ (b a : List ℕ) (rows : List ℤ) (used row : ℕ) (of : RowOf b a rows used row) (three : kindAt rows row ≡ 3) where
   pub index-inside : numberAt rows row < length (settingIn b a .description .expressions)
   index-inside = of .readable .row row (of .within) .expression three
@@ -54,7 +50,7 @@ module _ (b a : List ℕ) (rows : List ℤ) (used row : ℕ) (of : RowOf b a row
   unfolding computedAt
   computed-small here after v e =
       let x = getD (settingIn b a .description .expressions) (numberAt rows row) noExpression in
-      inside-mag v (value-inside _ x v (some x (expression-ok (settingIn b a .description) (obeyed-in b a (of .fixed)) (numberAt rows row) index-inside)) e)
+      inside-mag v (value-inside _ x v (written x (expression-ok (settingIn b a .description) (obeyed-in b a (of .fixed)) (numberAt rows row) index-inside) .some) e)
 
   module _ (place : ℕ) (is : place ≡ expressionStart a (numberAt rows row)) where
     same : getD (settingIn b a .description .expressions) (numberAt rows row) noExpression ≡ expressionAt b place

@@ -1,4 +1,4 @@
--- A sweep's rows tile the code; with more numbers lent it begins with the same rows, and so it does over longer code.
+-- A value outside makes a gap. A sweep's rows tile the code; with more numbers lent it begins with the same rows, and so it does over longer code.
 use Prim.Native.Nat.{ℕ, zero, suc, _+_, _-_, _*_, _/_, _≤_, _<_}
 use mathlib.Core.Bool.{Bool, true, false, cond}
 use mathlib.Core.List.{List, [], _∷_, _++_, append-assoc, append-nil}
@@ -18,7 +18,10 @@ use Rattle.acceptance.specs.declared.Acceptance.{Acceptance}
 use Rattle.acceptance.specs.declared.Acceptance.the-variants as acceptance
 use Rattle.acceptance.specs.declared.Acceptance.the-variants.{Accepted}
 use Rattle.acceptance.proofs.Facts.{accepted-formed}
-use Rattle.sweep.specs.Sweep.{SweepRow, Sweep, joined, endAt, rowAt, rowThen, stepAt, sweepBy, sweepFrom, numbersOf, sweepIn, answerOf, bufferWith, sweepOf, bufferAfter, noRoot}
+use Rattle.decoding_spec.specs.Walk.{refused}
+use Rattle.decoding_spec.specs.Instruction.{instructionOf}
+use Rattle.decoding_spec.specs.declared.Refusal.the-variants.{ValueOutside}
+use Rattle.sweep.specs.Sweep.{SweepRow, Sweep, joined, endAt, rowAt, rowThen, stepBy, stepAt, sweepBy, sweepFrom, numbersOf, sweepIn, answerOf, bufferWith, sweepOf, bufferAfter, noRoot}
 use Rattle.sweep.specs.Facts.{Tiled, Extends}
 use Rattle.sweep.specs.declared.End.{End}
 use Rattle.sweep.specs.declared.End.the-variants as end
@@ -28,6 +31,12 @@ use Rattle.sweep.specs.declared.Swept.{Swept}
 use Rattle.sweep.specs.declared.Swept.the-variants.{Ended, Rejected}
 use Rattle.sweep.proofs.Places.{few-records, step-fits, step-stays}
 use Rattle.sweep.proofs.Turns.{numbers-length, numbers-append, no-room, goes-on}
+
+-- 13: "in a sweep it makes a gap"
+pub outside-gap : (d : Description) (c a : ℕ) (s : List ℕ) (at p : ℕ) → instructionOf d c (a + at) (drop at s) ≡ refused (ValueOutside p)
+    → stepAt d c a s at ≡ Row 1 13 65535
+unfolding stepAt
+outside-gap d c a s at p e = ap stepBy e
 
 module _ (d : Description) (o : RulesHold d) (few : length (d .constructors) ≤ noRoot) (c a : ℕ) (s : List ℕ) where
   tile : (room at : ℕ) → at ≤ length s → Tiled d c a s at (sweepFrom d c a s room at)

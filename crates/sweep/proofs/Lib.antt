@@ -2,4 +2,3 @@
 mod Places
 mod Turns
 pub mod Facts
-pub mod Addresses

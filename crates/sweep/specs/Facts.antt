@@ -1,12 +1,10 @@
 -- What the theorems say of a sweep's rows.
-use Prim.Native.Nat.{ℕ, _+_, _-_, _/_, _≤_}
+use Prim.Native.Nat.{ℕ, _+_, _-_, _≤_}
 use mathlib.Core.List.{List, [], _∷_}
 use mathlib.Core.Path.{_≡_}
-use lib.ListN.{length, take, drop}
-use Rattle.format.specs.Numbers.{sweepNumbers}
+use lib.ListN.{length, take}
 use Rattle.format.specs.Description.{Description}
-use Rattle.decoding_spec.specs.Walk.{walkedOf}
-use Rattle.sweep.specs.Sweep.{SweepRow, Sweep, joined, stepBy, stepAt, sweepBy, sweepFrom}
+use Rattle.sweep.specs.Sweep.{SweepRow, Sweep, joined, stepAt, sweepFrom}
 use Rattle.sweep.specs.declared.End.the-variants as end
 use Rattle.sweep.specs.declared.Step.the-variants.{Row}
 
@@ -27,7 +25,3 @@ pub record Extends (d : Description) (c a : ℕ) (s : List ℕ) (room : ℕ) (w 
   pub whole : w′ ≡ joined (w .rows) (sweepFrom d c a s (room - length (w .rows)) (w .next))
   pub begins : take (length (w .rows)) (w′ .rows) ≡ w .rows
   pub full : w .why ≡ end.Full → w′ ≡ w
-
--- the sweep of document 01, which knows no address: each row is that place's walk
-unfoldable pub walkedSweep : Description → ℕ → List ℕ → ℕ → Sweep
-walkedSweep d c s numbers = sweepBy (λ at. stepBy (walkedOf d c (drop at s))) (length s) (numbers / sweepNumbers) 0

@@ -55,8 +55,8 @@ abbrev pub stepBy : Result Node → Step
 stepBy (done n l st) = Row l 0 (rootNumber n)
 stepBy (refused r) = gap r
 
--- "each row is that place's decoding": of the bytes from there to the end of the code; "a sweep [takes the address] of its byte 0",
--- a, and "no address wraps"
+-- "each row is that place's decoding": of the bytes from there to the end of the code; "Decoding takes a 32-bit address, a sweep that of
+-- its byte 0", a; "no address wraps"
 unfoldable pub stepAt : Description → (context address : ℕ) → List ℕ → ℕ → Step
 stepAt d c a s at = stepBy (instructionOf d c (a + at) (drop at s))
 

@@ -49,13 +49,7 @@ fn decode_in(
 }
 
 // Any bytes as the description and as the code, any context and address, any room for the text.
-pub fn decode_text(
-    desc: &[u8],
-    context: u32,
-    address: u32,
-    code: &[u8],
-    out: &mut [u8],
-) -> Texted
+pub fn decode_text(desc: &[u8], context: u32, address: u32, code: &[u8], out: &mut [u8]) -> Texted
     ensures { λ r. ⌜ r ≡ decodeTextOf (now (desc .entry)) context address (now (code .entry)) (length (now (out .entry))) ⌝ }
     ensures { λ _. ⌜ now (out .exit) ≡ textAfter (now (desc .entry)) context address (now (code .entry)) (now (out .entry)) ⌝ }
 {

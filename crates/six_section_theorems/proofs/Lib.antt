@@ -1,0 +1,3 @@
+-- A description of six sections decodes as before.
+pub mod Walks
+pub mod Entries
