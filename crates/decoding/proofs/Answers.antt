@@ -14,8 +14,7 @@ use Rattle.decoding_spec.specs.Instruction.{instructionOf}
 use Rattle.decoding_spec.specs.declared.State.{State}
 use Rattle.decoding_spec.specs.declared.Refusal.{Refusal}
 use Rattle.walking.specs.Scratch.{scratchNumbers, scratchLength, sizedOf, written}
-use Rattle.walking.specs.Walks.{instructionAs}
-use Rattle.walking.specs.declared.Instruction.{Instruction}
+use Rattle.walking.specs.Walks.{Instruction, instructionAs}
 use Rattle.walking.specs.declared.Walked.the-variants as walked
 use Rattle.instructions.proofs.InstructionRows.{was-refused, was-done, plain-rows, sized-length, rows-first}
 use Rattle.decoding.specs.Decoding.{Decodes, answerOf, bufferAfter}

@@ -45,8 +45,8 @@ fn decode_in(
     ensures { λ r. ⌜ Decodes (description (now (desc .entry)) layout) context address (now (code .entry)) (now (rows .entry)) r (now (rows .exit)) ⌝ }
 {
     let mut fixed = setting::fill(desc, layout, false);
-    let found = instructions::decode_at(desc, &mut fixed, context, address, code, 0);
-    let walked = found.walked;
+    let mut scratch = [0i64; walking::SCRATCH];
+    let walked = instructions::decode_at(desc, &mut fixed, context, address, code, 0, &mut scratch);
     match walked {
         Walked::Refused(refusal) => Decoded::Refused(refusal),
         Walked::Done { state, length: _ } => {
@@ -54,7 +54,6 @@ fn decode_in(
             if rows.len() < format::ROW_NUMBERS * used {
                 return Decoded::NoRoom;
             }
-            let scratch = found.rows;
             copy_rows(&scratch, used, rows);
             Decoded::Done(used)
         }

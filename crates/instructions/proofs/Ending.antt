@@ -21,12 +21,11 @@ use Rattle.decoding_theorems.proofs.Shapes.{walked-shaped, walked-built, withou
 use Rattle.setting.specs.Fixed.{Fixed, settingIn, layoutIn}
 use Rattle.setting.proofs.Laws.{obeyed-in, fixed-for, setting-for}
 use Rattle.walking.specs.Scratch.{scratchLength, sizedOf, written}
-use Rattle.walking.specs.Walks.{answerOf, instructionAs, walkedAt, toldLength}
+use Rattle.walking.specs.Walks.{Instruction, leaving, noRows, answerOf, instructionAs, walkedAt, toldLength}
 use Rattle.walking.specs.declared.Walked.{Walked}
 use Rattle.walking.specs.declared.Walked.the-variants.{Done, Refused}
-use Rattle.walking.specs.declared.Instruction.{Instruction}
-use Rattle.instructions.specs.Settling.{settledFrom}
-use Rattle.instructions.specs.Instructions.{ReadableRows, Settles, resultAt}
+use Rattle.instructions.specs.Settling.{settledFrom, valuedAs, settledWalk}
+use Rattle.instructions.specs.Instructions.{ReadableRows, Settleable, Settles, resultAt}
 use Rattle.instructions.specs.declared.Settled.{Settled}
 use Rattle.instructions.specs.declared.Settled.the-variants.{AllInside, OutsideAt}
 use Rattle.instructions.proofs.SettledTree.{settled-tree}
@@ -58,7 +57,7 @@ module _ (b a s : List ℕ) (at c address : ℕ) (f : Fixed b a) where
     walked-is = ap (λ (x : Instruction). x .walked) is ∙ walked-of (walkedAt b a s at c)
 
     -- a refusal of the walk is the instruction's
-    pub stays-refused : (x : Refusal) → i .walked ≡ Refused x → i ≡ instructionAs (resultAt b a s at c address)
+    stays-refused : (x : Refusal) → i .walked ≡ Refused x → i ≡ instructionAs (resultAt b a s at c address)
     unfolding completed
     stays-refused x e = is ∙ go (walkedAt b a s at c) refl (sym walked-is ∙ e)
       where
@@ -109,40 +108,36 @@ module _ (b a s : List ℕ) (at c address : ℕ) (f : Fixed b a) where
       unfolding completed walkedAt
       whole = completes ∙ ap (completed d (address + at)) (w .result)
 
-      module _ (r : Settled) (new : List ℤ) (settles : Settles (settledFrom d (address + at) (address + at + l) (i .rows) 0 (st .used)) r new) where
-        inside : r ≡ AllInside → record { rows = new; walked = Done st l } ≡ instructionAs (resultAt b a s at c address)
-        inside q = rw whole (go (withValues d (address + at) (address + at + l) [] (w .tree)) (rw settled at settles))
-          where
-            go : (v : Valued Node) → Settles (whereInside v (λ m. valued (written 0 (sizedOf m) empty))) r new
-                → record { rows = new; walked = Done st l } ≡ instructionAs (ended l st v)
-            go (valued m) h = ap (λ (x : List ℤ). record { rows = x; walked = Done st l }) (h .1)
-            go (outside p) h = let z : _≡_ {A = ℕ} 0 1 = cc in absurd (omega arith)
-
-        beyond : (place : ℕ) → r ≡ OutsideAt place
-            → record { rows = empty; walked = Refused (ValueOutside place) } ≡ instructionAs (resultAt b a s at c address)
-        beyond place q = rw whole (go (withValues d (address + at) (address + at + l) [] (w .tree)) (rw settled at settles))
-          where
-            go : (v : Valued Node) → Settles (whereInside v (λ m. valued (written 0 (sizedOf m) empty))) r new
-                → record { rows = empty; walked = Refused (ValueOutside place) } ≡ instructionAs (ended l st v)
-            go (valued m) h = let z : _≡_ {A = ℕ} 0 1 = cc (h .0) in absurd (omega arith)
-            go (outside p) h = let z : place ≡ p = cc in rw z
-
-    module _ (l : ℕ) (st : State) (e : i .walked ≡ Done st l) where
-      pub readable-left : ReadableRows (settingIn b a .description) (i .rows) (st .used)
-      readable-left = readable l st (left l st e)
+      valued-here : valuedAs (Done st l) (settledFrom d (address + at) (address + at + l) (i .rows) 0 (st .used)) ≡ instructionAs (resultAt b a s at c address)
+      valued-here = rw (settled, whole) (go (withValues d (address + at) (address + at + l) [] (w .tree)))
+        where
+          go : (v : Valued Node) → valuedAs (Done st l) (whereInside v (λ m. valued (written 0 (sizedOf m) empty))) ≡ instructionAs (ended l st v)
+          go (valued m) = refl
+          go (outside p) = refl
 
       -- short enough for the address after it
-      pub length-near : l ≤ longest
-      length-near = let w = left l st e in walked-bounds d c (drop at s) (w .tree) l st (w .result) .near
+      near : l ≤ longest
+      near = walked-bounds d c (drop at s) (w .tree) l st (w .result) .near
 
-      module _ (r : Settled) (new : List ℤ)
-          (settles : Settles (settledFrom (settingIn b a .description) (address + at) (address + at + l) (i .rows) 0 (st .used)) r new) where
-        pub ends-inside : r ≡ AllInside → record { rows = new; walked = Done st l } ≡ instructionAs (resultAt b a s at c address)
-        ends-inside = inside l st (left l st e) r new settles
+  -- a walk's answer and rows can have their values put in, and are the instruction then
+  pub settleable : (w : Walked) (rows : List ℤ) → leaving w rows ≡ instructionAs (walkedAt b a s at c) → Settleable (settingIn b a .description) w rows
+  settleable (Done st l) rows is = let x = left (leaving (Done st l) rows) is l st refl in (readable (leaving (Done st l) rows) is l st x, near (leaving (Done st l) rows) is l st x)
+  settleable (Refused x) rows is = tt
 
-        pub ends-outside : (place : ℕ) → r ≡ OutsideAt place
-            → record { rows = replicate scratchLength (pos 0); walked = Refused (ValueOutside place) } ≡ instructionAs (resultAt b a s at c address)
-        ends-outside = beyond l st (left l st e) r new settles
+  pub settles-all : (w : Walked) (rows : List ℤ) → leaving w rows ≡ instructionAs (walkedAt b a s at c)
+      → settledWalk (settingIn b a .description) (address + at) w rows ≡ instructionAs (resultAt b a s at c address)
+  settles-all (Done st l) rows is = valued-here (leaving (Done st l) rows) is l st (left (leaving (Done st l) rows) is l st refl)
+  settles-all (Refused x) rows is = stays-refused (leaving (Refused x) rows) is x refl
+
+-- .. put in by the code
+pub settled-inside : (v : Valued (List ℤ)) (w : Walked) (r : Settled) (new : List ℤ) → Settles v r new → r ≡ AllInside → leaving w new ≡ valuedAs w v
+settled-inside (valued rows) w r new h e = ap (leaving w) (h .1)
+settled-inside (outside p) w r new h e = let z : _≡_ {A = ℕ} 0 1 = cc in absurd (omega arith)
+
+pub settled-outside : (v : Valued (List ℤ)) (w : Walked) (r : Settled) (new : List ℤ) → Settles v r new → (p : ℕ) → r ≡ OutsideAt p
+    → leaving (Refused (ValueOutside p)) noRows ≡ valuedAs w v
+settled-outside (valued rows) w r new h p e = let z : _≡_ {A = ℕ} 0 1 = cc (h .0) in absurd (omega arith)
+settled-outside (outside q) w r new h p e = let z : p ≡ q = cc in rw z
 
 -- told the length of the code from the place on, the numbers are of the same description
 module _ (b a s : List ℕ) (at : ℕ) (f : Fixed b a) (a′ : List ℕ) (told : a′ ≡ toldLength a s at) where

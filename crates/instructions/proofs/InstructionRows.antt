@@ -19,10 +19,9 @@ use Rattle.decoding_theorems.proofs.InBounds.{in-bounds, used-rows}
 use Rattle.setting.specs.Fixed.{fixedOf, settingIn}
 use Rattle.setting.proofs.Laws.{setting-of}
 use Rattle.walking.specs.Scratch.{scratchNumbers, scratchLength, SizedRow, sizedOf, sizedOfAll, scratchOf, putAt, written}
-use Rattle.walking.specs.Walks.{instructionAs}
+use Rattle.walking.specs.Walks.{Instruction, instructionAs}
 use Rattle.instructions.specs.Instructions.{resultAt}
 use Rattle.walking.specs.declared.Walked.the-variants.{Done, Refused}
-use Rattle.walking.specs.declared.Instruction.{Instruction}
 use Rattle.walking.proofs.Writing.{scratch-length}
 
 -- the rows without their sizes

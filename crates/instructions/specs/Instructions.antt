@@ -15,8 +15,13 @@ use Rattle.decoding_spec.specs.Instruction.{Valued, valued, outside, instructio
 use Rattle.setting.specs.Fixed.{Fixed, settingIn}
 use Rattle.walking.specs.Scratch.{scratchLength}
 use Rattle.scratch_rows.specs.Places.{kindAt, numberAt, startAt, lastAt, sizeAt}
+use Rattle.walking.specs.declared.Walked.{Walked}
+use Rattle.walking.specs.declared.Walked.the-variants as walked
+use Rattle.walking.specs.declared.Walked.the-variants.{Done}
 use Rattle.instructions.specs.declared.Settled.{Settled}
 use Rattle.instructions.specs.declared.Settled.the-variants.{AllInside, OutsideAt}
+use Rattle.instructions.specs.declared.Stepped.{Stepped}
+use Rattle.instructions.specs.declared.Stepped.the-variants.{Whole, Refused}
 
 -- the instruction at a place of the code, where byte 0 has this address: "no address wraps"
 unfoldable pub resultAt : (b a s : List ℕ) (at c address : ℕ) → Result Node
@@ -42,7 +47,17 @@ pub record RowOf (b a : List ℕ) (rows : List ℤ) (used r : ℕ) : Type 0 wher
   pub readable : ReadableRows (settingIn b a .description) rows used
   pub within : r < used
 
+-- .. as a walk leaves them, which is no longer than an instruction may be
+abbrev pub Settleable : Description → Walked → List ℤ → Type 0
+Settleable d (Done st l) rows = ReadableRows d rows (st .used) × (l ≤ longest)
+Settleable d (walked.Refused x) rows = Unit {0}
+
 -- the rows with their values, or the place of the first that has none
 abbrev pub Settles : Valued (List ℤ) → Settled → List ℤ → Type 0
 Settles (valued rows) r new = (r ≡ AllInside) × (new ≡ rows)
 Settles (outside p) r new = r ≡ OutsideAt p
+
+-- what a sweep asks of an instruction
+abbrev pub steppedAs : Walked → Stepped
+steppedAs (Done st l) = Whole l (st .taken)
+steppedAs (walked.Refused x) = Refused x

@@ -13,7 +13,11 @@ use Rattle.format.specs.Expression.{noExpression, namesOnly}
 use Rattle.whole_numbers.specs.declared.Whole.{Whole}
 use Rattle.whole_numbers.specs.declared.Whole.the-variants as whole
 use Rattle.decoding_spec.specs.Instruction.{Valued, valued, outside, whereInside, expressionValue}
+use Rattle.decoding_spec.specs.declared.Refusal.the-variants.{ValueOutside}
 use Rattle.walking.specs.Scratch.{scratchNumbers}
+use Rattle.walking.specs.Walks.{Instruction, leaving, noRows}
+use Rattle.walking.specs.declared.Walked.{Walked}
+use Rattle.walking.specs.declared.Walked.the-variants.{Done, Refused}
 use Rattle.scratch_rows.specs.Places.{kindAt, numberAt, startAt, lastAt, sizeAt}
 
 -- the last row before r, and below k, whose part reaches past r: the constructor that r is an operand of
@@ -57,3 +61,13 @@ module _ (d : Description) where
     unfoldable pub settledFrom : List ℤ → ℕ → ℕ → Valued (List ℤ)
     settledFrom rows r zero = valued rows
     settledFrom rows r (suc left) = whereInside (settledAt rows r) λ rows. settledFrom rows (r + 1) left
+
+-- the rows with their values; a value outside leaves none
+abbrev pub valuedAs : Walked → Valued (List ℤ) → Instruction
+valuedAs w (valued rows) = leaving w rows
+valuedAs w (outside p) = leaving (Refused (ValueOutside p)) noRows
+
+-- what a walk at an address has answered and left, with its values
+abbrev pub settledWalk : Description → ℕ → Walked → List ℤ → Instruction
+settledWalk d here (Done st l) rows = valuedAs (Done st l) (settledFrom d here (here + l) rows 0 (st .used))
+settledWalk d here (Refused x) rows = leaving (Refused x) rows

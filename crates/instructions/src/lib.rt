@@ -1,20 +1,19 @@
 // The instruction at a place of the code and at an address: the walk, and then the values of its computed operands.
 use decoding_spec::Refusal;
 use setting::FIXED;
-use walking::Instruction;
 use walking::SCRATCH;
 use walking::Walked;
 use whole_numbers::Whole;
 ghost use mathlib.Core.Path.{_≡_};
-ghost use Prim.Native.Nat.{_+_, _-_, _<_, _≤_};
+ghost use Prim.Native.Nat.{_+_, _-_, _^_, _<_, _≤_};
 ghost use lib.ListN.{length};
-ghost use Rattle.format.specs.Numbers.{mostRows};
+ghost use Rattle.format.specs.Numbers.{longest, mostRows};
 ghost use Rattle.setting.specs.Fixed.{Fixed, settingIn};
 ghost use Rattle.walking.specs.Scratch.{scratchLength};
-ghost use Rattle.walking.specs.Walks.{answerOf, instructionAs, toldLength};
+ghost use Rattle.walking.specs.Walks.{answerOf, noRows, leaving, instructionAs, toldLength};
 ghost use Rattle.scratch_rows.specs.Places.{kindAt};
-ghost use Rattle.instructions.specs.Settling.{ownerBelow, countAt, countsAt, computedAt, settledAt, settledFrom};
-ghost use Rattle.instructions.specs.Instructions.{ReadableRows, RowOf, Settles, resultAt};
+ghost use Rattle.instructions.specs.Settling.{ownerBelow, countAt, countsAt, computedAt, settledAt, settledFrom, settledWalk};
+ghost use Rattle.instructions.specs.Instructions.{ReadableRows, RowOf, Settleable, Settles, resultAt, steppedAs};
 
 const COLUMNS: usize = scratch_rows::COLUMNS;
 
@@ -24,6 +23,13 @@ const OPERANDS: usize = format::OPERANDS_EACH as usize;
 pub enum Settled {
     AllInside,
     OutsideAt(u16),
+}
+
+// An instruction without its rows: its length and its root's constructor, or its refusal. Two numbers, and no whole state: the state's
+// numbers would be copied in pairs, for which the processor waits.
+pub enum Stepped {
+    Whole { length: usize, constructor: usize },
+    Refused(Refusal),
 }
 
 fn less(a: usize, b: usize) -> usize
@@ -171,7 +177,33 @@ fn settle(
     Settled::AllInside
 }
 
-// The instruction at a place of the code, with its rows.
+// A walk at an address, with the values of its computed operands put in; a refusal leaves zeros.
+fn settle_walk(
+    desc: &[u8],
+    fixed: &[usize; FIXED],
+    walked: Walked,
+    here: u64,
+    rows: &mut [i64; SCRATCH],
+) -> Walked
+    requires { ⌜ Fixed (now desc) (now fixed) × (here + longest < 2 ^ 64) × Settleable (settingIn (now desc) (now fixed) .description) walked (now rows) ⌝ }
+    ensures { λ r. ⌜ leaving r (now (rows .exit)) ≡ settledWalk (settingIn (now (desc .entry)) (now (fixed .entry)) .description) here walked (now (rows .entry)) ⌝ }
+{
+    let Walked::Done { state, length } = walked else {
+        return walked;
+    };
+    let after = here + (length as u64);
+    let settled = settle(desc, fixed, rows, state.used, here, after);
+    match settled {
+        Settled::AllInside => walked,
+        Settled::OutsideAt(place) => {
+            *rows = [0i64; SCRATCH];
+            Walked::Refused(Refusal::ValueOutside(place))
+        }
+    }
+}
+
+// The instruction at a place of the code, with its rows, which are zeros before and behind those used; a refusal leaves zeros. Only a
+// description with expressions has values to be put in.
 pub fn decode_at(
     desc: &[u8],
     fixed: &mut [usize; FIXED],
@@ -179,37 +211,29 @@ pub fn decode_at(
     address: u32,
     code: &[u8],
     at: usize,
-) -> Instruction
-    requires { ⌜ Fixed (now desc) (now fixed) × (at ≤ length (now code)) ⌝ }
-    ensures { λ r. ⌜ r ≡ instructionAs (resultAt (now (desc .entry)) (now (fixed .entry)) (now (code .entry)) at context address) ⌝ }
+    rows: &mut [i64; SCRATCH],
+) -> Walked
+    requires { ⌜ Fixed (now desc) (now fixed) × (at ≤ length (now code)) × (now rows ≡ noRows) ⌝ }
+    ensures { λ r. ⌜ leaving r (now (rows .exit)) ≡ instructionAs (resultAt (now (desc .entry)) (now (fixed .entry)) (now (code .entry)) at context address) ⌝ }
     ensures { λ _. ⌜ now (fixed .exit) ≡ toldLength (now (fixed .entry)) (now (code .entry)) at ⌝ }
 {
-    if fixed[setting::EXPRESSIONS] == 0 {
-        return walking::walk_at(desc, fixed, context, code, at);
+    let expressions = fixed[setting::EXPRESSIONS];
+    let walked = walking::walk_at(desc, fixed, context, code, at, rows);
+    if expressions == 0 {
+        return walked;
     }
-    let found = walking::walk_at(desc, fixed, context, code, at);
-    let walked = found.walked;
-    let Walked::Done { state, length } = walked else {
-        return found;
-    };
-    let mut rows = found.rows;
-    let here = (address as u64) + (at as u64);
-    let settled = settle(
-        desc,
-        fixed,
-        &mut rows,
-        state.used,
-        here,
-        here + (length as u64),
-    );
-    match settled {
-        Settled::AllInside => Instruction {
-            rows,
-            walked: Walked::Done { state, length },
-        },
-        Settled::OutsideAt(place) => Instruction {
-            rows: [0i64; SCRATCH],
-            walked: Walked::Refused(Refusal::ValueOutside(place)),
+    settle_walk(desc, fixed, walked, (address as u64) + (at as u64), rows)
+}
+
+// What a sweep asks of an instruction.
+fn step_of(walked: Walked) -> Stepped
+    ensures { λ r. ⌜ r ≡ steppedAs walked ⌝ }
+{
+    match walked {
+        Walked::Refused(refusal) => Stepped::Refused(refusal),
+        Walked::Done { state, length } => Stepped::Whole {
+            length,
+            constructor: state.taken,
         },
     }
 }
@@ -222,13 +246,14 @@ pub fn step_at(
     address: u32,
     code: &[u8],
     at: usize,
-) -> Walked
+) -> Stepped
     requires { ⌜ Fixed (now desc) (now fixed) × (at ≤ length (now code)) ⌝ }
-    ensures { λ r. ⌜ r ≡ answerOf (resultAt (now (desc .entry)) (now (fixed .entry)) (now (code .entry)) at context address) ⌝ }
+    ensures { λ r. ⌜ r ≡ steppedAs (answerOf (resultAt (now (desc .entry)) (now (fixed .entry)) (now (code .entry)) at context address)) ⌝ }
     ensures { λ _. ⌜ now (fixed .exit) ≡ toldLength (now (fixed .entry)) (now (code .entry)) at ⌝ }
 {
     if fixed[setting::EXPRESSIONS] == 0 {
-        return walking::step_at(desc, fixed, context, code, at);
+        return step_of(walking::step_at(desc, fixed, context, code, at));
     }
-    decode_at(desc, fixed, context, address, code, at).walked
+    let mut rows = [0i64; SCRATCH];
+    step_of(decode_at(desc, fixed, context, address, code, at, &mut rows))
 }

@@ -55,9 +55,13 @@ put-more v w l m m′ n n′ p h e =
       holds = e .holds ∙ ap (λ (x : List ℕ). over (take n x ++ w) x) (p .holds) ∙ over-over v w l n (p .size);
     }
 
-pub eight-long : (n : ℕ) → length (hexDigits 8 n) ≡ 8
+eight-long : (n : ℕ) → length (hexDigits 8 n) ≡ 8
 unfolding hexDigits
 eight-long n = refl
+
+pub short-long : (n : ℕ) → length (hexDigits 8 n ++ (58 ∷ 32 ∷ [])) ≡ 10
+unfolding hexDigits
+short-long n = refl
 
 pub address-long : (n : ℕ) → length (addressText n) ≤ 16
 unfolding addressText

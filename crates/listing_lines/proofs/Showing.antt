@@ -14,9 +14,8 @@ use Rattle.decoding_spec.specs.declared.Refusal.{Refusal}
 use Rattle.decoding_theorems.proofs.InBounds.{in-bounds}
 use Rattle.setting.specs.Fixed.{Fixed, settingIn, totalPlace}
 use Rattle.setting.proofs.Laws.{obeyed-in, fixed-for, setting-for}
-use Rattle.walking.specs.Walks.{instructionAs, toldLength}
+use Rattle.walking.specs.Walks.{Instruction, instructionAs, toldLength}
 use Rattle.instructions.specs.Instructions.{resultAt}
-use Rattle.walking.specs.declared.Instruction.{Instruction}
 use Rattle.walking.specs.declared.Walked.the-variants as walked
 use Rattle.instructions.proofs.InstructionRows.{was-refused, was-done}
 use Rattle.text.specs.Text.{textOf}

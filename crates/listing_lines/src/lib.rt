@@ -5,6 +5,7 @@ use printing::Printed;
 use setting::FIXED;
 use text::Line;
 use walking::Walked;
+ghost use mathlib.Core.List.{[], _∷_, _++_};
 ghost use mathlib.Core.Logic.{_⊎_};
 ghost use mathlib.Core.Path.{_≡_};
 ghost use Prim.Native.Nat.{_+_, _%_, _<_, _≤_};
@@ -54,9 +55,9 @@ fn digit(n: usize) -> u8
     printing::digit((n % 16) as u8)
 }
 
-// The last eight digits.
-fn eight_digits(n: usize) -> [u8; 8]
-    ensures { λ r. ⌜ r ≡ hexDigits 8 n ⌝ }
+// Eight digits, a colon and a blank.
+fn short_address(n: usize) -> [u8; 10]
+    ensures { λ r. ⌜ r ≡ hexDigits 8 n ++ (58 ∷ 32 ∷ []) ⌝ }
 {
     let a = n / 16;
     let b = a / 16;
@@ -74,6 +75,8 @@ fn eight_digits(n: usize) -> [u8; 8]
         digit(b),
         digit(a),
         digit(n),
+        b':',
+        b' ',
     ]
 }
 
@@ -89,24 +92,24 @@ fn append_number(n: usize, base: u8, out: &mut [u8], at: usize) -> usize
     }
 }
 
-// An address has eight digits, or as many as it needs.
+// An address of eight digits, or as many as it needs, a colon and a blank.
 fn put_address(here: usize, line: &mut [u8]) -> usize
-    requires { ⌜ 20 ≤ length (now line) ⌝ }
-    ensures { λ r. ⌜ Put (addressText here) (now (line .entry)) (now (line .exit)) r ⌝ }
+    requires { ⌜ 22 ≤ length (now line) ⌝ }
+    ensures { λ r. ⌜ Put (addressText here ++ (58 ∷ 32 ∷ [])) (now (line .entry)) (now (line .exit)) r ⌝ }
 {
     if here < 4294967296 {
-        let digits = eight_digits(here);
-        return append(&digits, line, 0);
+        let head = short_address(here);
+        return append(&head, line, 0);
     }
-    append_number(here, 16, line, 0)
+    let end = append_number(here, 16, line, 0);
+    append(b": ", line, end)
 }
 
 fn put_line(shown: &[u8], here: usize, line: &mut [u8]) -> usize
     requires { ⌜ (length (now shown) ≤ longestText) × (length (now line) ≡ lineBytes) ⌝ }
     ensures { λ r. ⌜ Put (lineText here (now (shown .entry))) (now (line .entry)) (now (line .exit)) r ⌝ }
 {
-    let head = put_address(here, line);
-    let body = append(b": ", line, head);
+    let body = put_address(here, line);
     let end = append(shown, line, body);
     append(b"\n", line, end)
 }
@@ -179,17 +182,14 @@ fn show(
     requires { ⌜ PlaceOf (now desc) (now fixed) (now code) at × (length (now out) ≡ longestText) ⌝ }
     ensures { λ r. ⌜ Shows (now (desc .entry)) (now (fixed .entry)) (now (code .entry)) context address at (now (out .entry)) r (now (out .exit)) (now (fixed .exit)) ⌝ }
 {
-    let found = instructions::decode_at(desc, fixed, context, address, code, at);
-    let walked = found.walked;
+    let mut rows = [0i64; walking::SCRATCH];
+    let walked = instructions::decode_at(desc, fixed, context, address, code, at, &mut rows);
     match walked {
         Walked::Refused(refusal) => show_refusal(refusal, code[at], at, code.len(), out),
-        Walked::Done { state, length } => {
-            let rows = found.rows;
-            Shown {
-                size: show_text(desc, fixed, &rows, state.used, out),
-                next: at + length,
-            }
-        }
+        Walked::Done { state, length } => Shown {
+            size: show_text(desc, fixed, &rows, state.used, out),
+            next: at + length,
+        },
     }
 }
 

@@ -24,9 +24,9 @@ use Rattle.decoding_theorems.proofs.Instructions.{relation, stays}
 use Rattle.decoding_theorems.proofs.Shapes.{shaped}
 use Rattle.setting.specs.Fixed.{settingIn}
 use Rattle.walking.specs.Walks.{answerOf}
-use Rattle.walking.specs.declared.Walked.{Walked}
-use Rattle.walking.specs.declared.Walked.the-variants as walked
-use Rattle.instructions.specs.Instructions.{resultAt}
+use Rattle.instructions.specs.Instructions.{resultAt, steppedAs}
+use Rattle.instructions.specs.declared.Stepped.{Stepped}
+use Rattle.instructions.specs.declared.Stepped.the-variants as stepped
 use Rattle.sweep.specs.Sweep.{rootNumber, noRoot, gapLength, gap, stepBy, stepAt}
 use Rattle.sweep.specs.declared.Step.the-variants.{Row, Stop}
 
@@ -39,25 +39,25 @@ pub root-taken : (d : Description) (c a : ℕ) (s : List ℕ) (n : Node) (l : �
     → st .taken ≡ rootNumber n
 root-taken d c a s n l st e = walk-taken (relation d c a s n l st e .root)
 
--- a place's step, from the walk's answer there
-module _ (b a s : List ℕ) (at c address : ℕ) (w : Walked) (is : w ≡ answerOf (resultAt b a s at c address)) where
-  pub gap-step : (r : Refusal) → w ≡ walked.Refused r → gap r ≡ stepBy (resultAt b a s at c address)
+-- a place's step, from the instruction there
+module _ (b a s : List ℕ) (at c address : ℕ) (w : Stepped) (is : w ≡ steppedAs (answerOf (resultAt b a s at c address))) where
+  pub gap-step : (r : Refusal) → w ≡ stepped.Refused r → gap r ≡ stepBy (resultAt b a s at c address)
   gap-step r e = go (resultAt b a s at c address) (sym is ∙ e)
     where
-      go : (x : Result Node) → answerOf x ≡ walked.Refused r → gap r ≡ stepBy x
+      go : (x : Result Node) → steppedAs (answerOf x) ≡ stepped.Refused r → gap r ≡ stepBy x
       go (done n l st) q = let z : _≡_ {A = ℕ} 0 1 = cc in absurd (omega arith)
       go (refused r′) q = let z : r ≡ r′ = cc in ap gap z
 
-  pub row-step : (st : State) (l : ℕ) → w ≡ walked.Done st l → Row l 0 (st .taken) ≡ stepBy (resultAt b a s at c address)
+  pub row-step : (l k : ℕ) → w ≡ stepped.Whole l k → Row l 0 k ≡ stepBy (resultAt b a s at c address)
   unfolding resultAt
-  row-step st l e = go (resultAt b a s at c address) refl (sym is ∙ e)
+  row-step l k e = go (resultAt b a s at c address) refl (sym is ∙ e)
     where
-      go : (x : Result Node) → instructionOf (settingIn b a .description) c (address + at) (drop at s) ≡ x → answerOf x ≡ walked.Done st l
-          → Row l 0 (st .taken) ≡ stepBy x
-      go (done n m st′) p q =
+      go : (x : Result Node) → instructionOf (settingIn b a .description) c (address + at) (drop at s) ≡ x → steppedAs (answerOf x) ≡ stepped.Whole l k
+          → Row l 0 k ≡ stepBy x
+      go (done n m st) p q =
           let x : l ≡ m = cc in
-          let y : st ≡ st′ = cc in
-          let z : st .taken ≡ rootNumber n = ap (λ (u : State). u .taken) y ∙ root-taken _ c (address + at) (drop at s) n m st′ p in
+          let y : k ≡ st .taken = cc in
+          let z : k ≡ rootNumber n = y ∙ root-taken _ c (address + at) (drop at s) n m st p in
           cc
       go (refused r) p q = let z : _≡_ {A = ℕ} 0 1 = cc in absurd (omega arith)
 

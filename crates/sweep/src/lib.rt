@@ -3,8 +3,8 @@ use acceptance::Acceptance;
 use acceptance::Rejection;
 use decoding_spec::Refusal;
 use format::Layout;
+use instructions::Stepped;
 use setting::FIXED;
-use walking::Walked;
 ghost use mathlib.Core.Path.{_≡_};
 ghost use Prim.Native.Nat.{_+_, _*_, _<_, _≤_, _^_};
 ghost use lib.ListN.{length};
@@ -72,13 +72,16 @@ fn step_at(
     ensures { λ r. ⌜ r ≡ stepBy (resultAt (now (desc .entry)) (now (fixed .entry)) (now (code .entry)) at context address) ⌝ }
     ensures { λ _. ⌜ now (fixed .exit) ≡ toldLength (now (fixed .entry)) (now (code .entry)) at ⌝ }
 {
-    let walked = instructions::step_at(desc, fixed, context, address, code, at);
-    match walked {
-        Walked::Refused(refusal) => gap_of(refusal),
-        Walked::Done { state, length } => Step::Row {
+    let found = instructions::step_at(desc, fixed, context, address, code, at);
+    match found {
+        Stepped::Refused(refusal) => gap_of(refusal),
+        Stepped::Whole {
+            length,
+            constructor,
+        } => Step::Row {
             length,
             answer: 0,
-            constructor: state.taken,
+            constructor,
         },
     }
 }

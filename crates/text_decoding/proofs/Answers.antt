@@ -17,10 +17,9 @@ use Rattle.decoding_spec.specs.declared.Refusal.{Refusal}
 use Rattle.decoding_spec.specs.declared.State.{State}
 use Rattle.setting.specs.Fixed.{fixedOf, Fixed}
 use Rattle.setting.proofs.Laws.{fixed-of, setting-of, fixed-for, setting-for}
-use Rattle.walking.specs.Walks.{instructionAs, toldLength}
+use Rattle.walking.specs.Walks.{Instruction, instructionAs, toldLength}
 use Rattle.instructions.specs.Instructions.{resultAt}
 use Rattle.instructions.proofs.InstructionRows.{Whole, was-refused, was-done, first-here}
-use Rattle.walking.specs.declared.Instruction.{Instruction}
 use Rattle.walking.specs.declared.Walked.the-variants as walked
 use Rattle.text.specs.Text.{textOf}
 use Rattle.text.specs.Places.{textAt, SoundRows}

@@ -32,9 +32,8 @@ fn decode_in(
     ensures { λ _. ⌜ now (out .exit) ≡ instructionBuffer (description (now (desc .entry)) layout) context address (now (code .entry)) (now (out .entry)) ⌝ }
 {
     let mut fixed = setting::fill(desc, layout, false);
-    let instruction = instructions::decode_at(desc, &mut fixed, context, address, code, 0);
-    let rows = instruction.rows;
-    let walked = instruction.walked;
+    let mut rows = [0i64; walking::SCRATCH];
+    let walked = instructions::decode_at(desc, &mut fixed, context, address, code, 0, &mut rows);
     match walked {
         Walked::Refused(refusal) => Texted::Refused(refusal),
         Walked::Done { state, length: _ } => {

@@ -17,7 +17,6 @@ use Rattle.walking.specs.Scratch.{scratchLength, sizedOf, written}
 use Rattle.walking.specs.Walks.{WalksTo, RootWalks, answerOf, instructionAs, walkedAt, toldLength}
 use Rattle.walking.specs.declared.Walked.{Walked}
 use Rattle.walking.specs.declared.Walked.the-variants.{Done, Refused}
-use Rattle.walking.specs.declared.Instruction.{Instruction}
 use Rattle.walking.proofs.Steps.{code-from, was-refused, was-done}
 
 module _ (b a s : List ℕ) (at c : ℕ) (long : totalPlace < length a) where

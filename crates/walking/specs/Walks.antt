@@ -23,16 +23,26 @@ use Rattle.setting.specs.Fixed.{Fixed, settingIn, totalPlace}
 use Rattle.walking.specs.Scratch.{scratchLength, SizedRow, sized, sizedOf, sizedOfAll, written}
 use Rattle.walking.specs.declared.Walked.{Walked}
 use Rattle.walking.specs.declared.Walked.the-variants.{Done, Refused}
-use Rattle.walking.specs.declared.Instruction.{Instruction}
 
 abbrev pub answerOf : {A : Type 0} → Result A → Walked
 answerOf (done a l st) = Done st l
 answerOf (refused r) = Refused r
 
--- the instruction and its rows, with zeros behind them; a refusal has no rows
+-- an instruction with its rows: the answer, and what it leaves in the scratch
+pub record Instruction : Type 0 where
+  pub rows : List ℤ
+  pub walked : Walked
+
+abbrev pub leaving : Walked → List ℤ → Instruction
+leaving w rows = record { rows = rows; walked = w }
+
+abbrev pub noRows : List ℤ
+noRows = replicate scratchLength (pos 0)
+
+-- with zeros behind its rows; a refusal has none
 abbrev pub instructionAs : Result Node → Instruction
-instructionAs (done n l st) = record { rows = written 0 (sizedOf n) (replicate scratchLength (pos 0)); walked = Done st l }
-instructionAs (refused r) = record { rows = replicate scratchLength (pos 0); walked = Refused r }
+instructionAs (done n l st) = leaving (Done st l) (written 0 (sizedOf n) noRows)
+instructionAs (refused r) = leaving (Refused r) noRows
 
 -- no place that is asked for lies as far as this: an anchor's end, and an offset of a byte
 abbrev pub beyondPlaces : ℕ

@@ -17,7 +17,7 @@ ghost use Rattle.decoding_spec.specs.State.{counted};
 ghost use Rattle.decoding_spec.specs.Walk.{widthOf};
 ghost use Rattle.setting.specs.Fixed.{Fixed, settingIn, totalPlace};
 ghost use Rattle.walking.specs.Scratch.{sized, written};
-ghost use Rattle.walking.specs.Walks.{beyondPlaces, Ready, Within, Closes, Showable, ShownWalks, FieldWalks, ComputedWalks, OperandWalks, OperandsWalk, ConstructorWalks, TableWalks, RootWalks, PutsNumber, PlacedAt, UsableAt, ConstructorAt, answerOf, instructionAs, walkedAt, toldLength};
+ghost use Rattle.walking.specs.Walks.{beyondPlaces, Ready, Within, Closes, Showable, ShownWalks, FieldWalks, ComputedWalks, OperandWalks, OperandsWalk, ConstructorWalks, TableWalks, RootWalks, PutsNumber, PlacedAt, UsableAt, ConstructorAt, answerOf, instructionAs, walkedAt, toldLength, noRows, leaving};
 
 // A scratch row's numbers: those of a row, and its size. And the scratch buffer's numbers, for all rows.
 pub const SCRATCH_NUMBERS: usize = 5;
@@ -33,12 +33,6 @@ const LONGEST: usize = format::LONGEST as usize;
 pub enum Walked {
     Done { state: State, length: usize },
     Refused(Refusal),
-}
-
-// An instruction with its rows.
-pub struct Instruction {
-    pub rows: [i64; SCRATCH],
-    pub walked: Walked,
 }
 
 fn wide(x: u8) -> usize
@@ -449,29 +443,26 @@ pub fn step_at(
     walk_root(desc, fixed, context, &code[at..], &mut none)
 }
 
-// The walk at a place of the code, with its rows.
+// The walk at a place of the code, with its rows, which are zeros before and behind those used; a refusal leaves zeros.
 pub fn walk_at(
     desc: &[u8],
     fixed: &mut [usize; FIXED],
     context: u32,
     code: &[u8],
     at: usize,
-) -> Instruction
-    requires { ⌜ Fixed (now desc) (now fixed) × (at ≤ length (now code)) ⌝ }
-    ensures { λ r. ⌜ r ≡ instructionAs (walkedAt (now (desc .entry)) (now (fixed .entry)) (now (code .entry)) at context) ⌝ }
+    rows: &mut [i64; SCRATCH],
+) -> Walked
+    requires { ⌜ Fixed (now desc) (now fixed) × (at ≤ length (now code)) × (now rows ≡ noRows) ⌝ }
+    ensures { λ r. ⌜ leaving r (now (rows .exit)) ≡ instructionAs (walkedAt (now (desc .entry)) (now (fixed .entry)) (now (code .entry)) at context) ⌝ }
     ensures { λ _. ⌜ now (fixed .exit) ≡ toldLength (now (fixed .entry)) (now (code .entry)) at ⌝ }
 {
     fixed[setting::TOTAL] = code.len() - at;
-    let mut rows = [0i64; SCRATCH];
-    let walked = walk_root(desc, fixed, context, &code[at..], &mut rows);
+    let walked = walk_root(desc, fixed, context, &code[at..], rows);
     match walked {
-        Walked::Refused(refusal) => Instruction {
-            rows: [0i64; SCRATCH],
-            walked: Walked::Refused(refusal),
-        },
-        Walked::Done { state, length } => Instruction {
-            rows,
-            walked: Walked::Done { state, length },
-        },
+        Walked::Refused(refusal) => {
+            *rows = [0i64; SCRATCH];
+            Walked::Refused(refusal)
+        }
+        Walked::Done { state, length } => Walked::Done { state, length },
     }
 }

@@ -13,51 +13,38 @@ put-address-requires c κs = search needs
 
 append-requires : tie.Need-append-requires
 append-requires c κs =
-    let first = c .before .before .before .before in
+    let first = c .before .before .before in
     let start = first .before .before .before .before in
-    rw (first .put-address .kept .1 .0) (omega (arith, first .put-address .ensures .size, address-long (start .args .here)))
+    rw (first .put-address .kept .1 .0)
+    (omega (arith, first .put-address .ensures .size, length-append (addressText (start .args .here)) (58 ∷ 32 ∷ []), address-long (start .args .here)))
 
 append-requires-2 : tie.Need-append-requires-2
 append-requires-2 c κs =
-    let second = c .before .before .before in
-    let first = second .before .before .before .before .before in
+    let second = c .before .before .before .before in
+    let first = second .before .before .before .before in
     let start = first .before .before .before .before in
     rw (second .append .kept .1 .0, first .put-address .kept .1 .0)
-    (omega (arith, first .put-address .ensures .size, second .append .ensures .size, address-long (start .args .here)))
-
-append-requires-3 : tie.Need-append-requires-3
-append-requires-3 c κs =
-    let third = c .before .before .before .before in
-    let second = third .before .before .before .before in
-    let first = second .before .before .before .before .before in
-    let start = first .before .before .before .before in
-    rw (third .append2 .kept .1 .0, second .append .kept .1 .0, first .put-address .kept .1 .0)
-    (omega (arith, first .put-address .ensures .size, second .append .ensures .size, third .append2 .ensures .size, address-long (start .args .here)))
+    (omega (arith, first .put-address .ensures .size, second .append .ensures .size, length-append (addressText (start .args .here)) (58 ∷ 32 ∷ []), address-long (start .args .here)))
 
 returns : tie.Need-returns
 unfolding lineText
 returns c =
-    let third = c .before .before .before .before .before .before .before in
-    let second = third .before .before .before .before in
-    let first = second .before .before .before .before .before in
+    let second = c .before .before .before .before .before .before .before in
+    let first = second .before .before .before .before in
     let start = first .before .before .before .before in
+    let head = addressText (start .args .here) ++ (58 ∷ 32 ∷ []) in
+    let long = length-append (addressText (start .args .here)) (58 ∷ 32 ∷ []) in
     let few = address-long (start .args .here) in
-    let a = first .put-address .ensures in
-    let b = put-more (addressText (start .args .here)) (58 ∷ 32 ∷ []) _ _ _ _ _ a (omega arith) (second .append .ensures) in
-    let d = put-more _ (start .args .shown .now) _ _ _ _ _ b (omega (arith, length-append (addressText (start .args .here)) (58 ∷ 32 ∷ []))) (third .append2 .ensures) in
-    put-more _ (10 ∷ []) _ _ _ _ _ d
-    (omega (arith, length-append (addressText (start .args .here)) (58 ∷ 32 ∷ []), length-append (addressText (start .args .here) ++ (58 ∷ 32 ∷ [])) (start .args .shown .now)))
-    (c .before .before .append3 .ensures)
+    let b = put-more head (start .args .shown .now) _ _ _ _ _ (first .put-address .ensures) (omega arith) (second .append .ensures) in
+    put-more _ (10 ∷ []) _ _ _ _ _ b (omega (arith, length-append head (start .args .shown .now))) (c .before .before .append2 .ensures)
 
 pub put-line-spec : {M : Type 1} → statement M
 put-line-spec =
     tie.close
     (tie.spec
     put-address-requires
-    (λ c. search needs)
     append-requires
-    append-requires-2
     (λ c. search needs)
-    append-requires-3
+    append-requires-2
     (λ c. search needs)
     returns)

@@ -1,7 +1,7 @@
 -- `text_decoding::decode_in` meets its contract. Assumes nothing.
 use Prim.Native.Nat.{ℕ}
 use mathlib.Core.List.{List}
-use mathlib.Core.Path.{sym, ap, _∙_}
+use mathlib.Core.Path.{refl, sym, ap, _∙_}
 use native.Mathlib.Omega.{arith}
 use Rattle.format.specs.Description.{description}
 use Rattle.text_decoding.specs.TextDecoding.{lineAnswer}
@@ -15,7 +15,7 @@ fill-requires : tie.Need-fill-requires
 fill-requires c κs = search needs
 
 decode-at-requires : tie.Need-decode-at-requires
-decode-at-requires c κs = (filled _ _ (c .before .before .before .before .before .pre) _ (c .before .fill .ensures), omega arith)
+decode-at-requires c κs = (filled _ _ (c .before .before .before .before .before .before .pre) _ (c .before .before .fill .ensures), omega arith, refl)
 
 enum-known-walked : tie.Need-enum-known-walked
 enum-known-walked c = search needs
@@ -24,15 +24,20 @@ enum-known-walked-2 : tie.Need-enum-known-walked-2
 enum-known-walked-2 c = search needs
 
 slice-aggregate-print-text : tie.Need-slice-aggregate-print-text
-slice-aggregate-print-text c = search needs
+slice-aggregate-print-text c =
+    let decoded = c .before .before .before .before .before in
+    let start = decoded .before .before .before .before .before .before .before in
+    let fills = decoded .before .before .before .fill .ensures in
+    let decodes = decoded .decode-at .ensures in
+    sym (sound-rows _ _ (start .pre) _ fills _ _ _ _ (decodes .0) _ _ (c .before .before .before .walked2 .given .1) _ (decodes .1) .long)
 
 print-text-requires : tie.Need-print-text-requires
 print-text-requires c κs =
-    let earlier = c .before .before .before .before .before .before .before in
-    let start = earlier .before .before .before .before .before .before in
+    let decoded = c .before .before .before .before .before .before in
+    let start = decoded .before .before .before .before .before .before .before in
     let formed = start .pre in
-    let fills = earlier .before .before .fill .ensures in
-    let decodes = earlier .decode-at .ensures in
+    let fills = decoded .before .before .before .fill .ensures in
+    let decodes = decoded .decode-at .ensures in
     let done = c .before .before .before .before .walked2 .given .1 in (
       told-fixed _ _ formed _ fills (start .args .code .now) _ (decodes .1),
       (sound-rows _ _ formed _ fills _ _ _ _ (decodes .0) _ _ done _ (decodes .1), some-rows _ _ formed _ fills _ _ _ _ (decodes .0) _ _ done),
@@ -46,10 +51,10 @@ AnswersAt start new r =
 -- the text is printed
 printed : (c : tie.After-print-text) → AnswersAt (c .before .before .before .before .before .before .before .before .before .before .before .before .before .before) (c .print-text .last .1 .1 .1 .1 .0) (lineAnswer (c .print-text .result))
 printed c =
-    let earlier = c .before .before .before .before .before .before .before .before in
-    let formed = earlier .before .before .before .before .before .before .pre in
-    let fills = earlier .before .before .fill .ensures in
-    let decodes = earlier .decode-at .ensures in
+    let decoded = c .before .before .before .before .before .before .before in
+    let formed = decoded .before .before .before .before .before .before .before .pre in
+    let fills = decoded .before .before .before .fill .ensures in
+    let decodes = decoded .decode-at .ensures in
     let done = c .before .before .before .before .before .walked2 .given .1 in
     let prints = c .print-text .ensures in
     line-answers _ _ formed _ fills _ _ _ _ (decodes .0) _ _ done _ (decodes .1) _ _ _ (prints .0) (prints .1)
@@ -65,10 +70,10 @@ enum-told-2 c = search needs
 
 returns : tie.Need-returns
 returns c =
-    let earlier = c .before .before .before .before in
-    let start = earlier .before .before .before .before .before .before in
-    let fills = earlier .before .before .fill .ensures in
-    let decodes = earlier .decode-at .ensures in
+    let decoded = c .before .before .before in
+    let start = decoded .before .before .before .before .before .before .before in
+    let fills = decoded .before .before .before .fill .ensures in
+    let decodes = decoded .decode-at .ensures in
     refusal-answers _ _ (start .pre) _ fills _ _ _ _ (decodes .0) (start .args .out .now) _ (c .before .walked .given .1)
 
 same-length : tie.Need-same-length

@@ -1,9 +1,9 @@
 use Rattle.listing_lines.specs.Line.{hexDigits}
 use borrow.Author.Needs.{needs}
-use Rattle.listing_lines.proofs.eight_digits.Statement.{statement}
-use Rattle.listing_lines.proofs.eight_digits.Tie as tie
-use Rattle.listing_lines.proofs.eight_digits.Reads as reads
-use Rattle.listing_lines.proofs.eight_digits.Lts as lts
+use Rattle.listing_lines.proofs.short_address.Statement.{statement}
+use Rattle.listing_lines.proofs.short_address.Tie as tie
+use Rattle.listing_lines.proofs.short_address.Reads as reads
+use Rattle.listing_lines.proofs.short_address.Lts as lts
 use Rattle.listing_lines.proofs.digit.Reads as digit-reads
 
 digit-requires : tie.Need-digit-requires
@@ -37,8 +37,8 @@ returns c =
     let earliest = earlier .before .before in
     rw (earliest .before .before .digit .ensures, earliest .before .digit2 .ensures, earliest .digit3 .ensures, earlier .before .digit4 .ensures, earlier .digit5 .ensures, c .before .before .digit6 .ensures, c .before .digit7 .ensures, c .digit8 .ensures)
 
-pub eight-digits-spec : {M : Type 1} → statement M
-eight-digits-spec =
+pub short-address-spec : {M : Type 1} → statement M
+short-address-spec =
     tie.close
     (tie.spec
     digit-requires
