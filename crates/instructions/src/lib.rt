@@ -20,7 +20,7 @@ const COLUMNS: usize = scratch_rows::COLUMNS;
 const OPERANDS: usize = format::OPERANDS_EACH as usize;
 
 // The values were put in, or the place of the first operand that has a value outside.
-pub enum Settled {
+enum Settled {
     AllInside,
     OutsideAt(u16),
 }

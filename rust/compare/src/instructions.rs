@@ -2,9 +2,9 @@
 
 use generate::example::{description_s, full_featured, target};
 use generate::{
-    address, bytes, change_bytes, change_records, code, compute_some, context, decodable,
-    insert_or_remove, longest, longest_of_all, planted, rules, some_expression, well_formed,
-    with_rows, Leaning, Rng, Size, EDGE_ADDRESSES,
+    bytes, change_bytes, change_records, code, compute_some, context, decodable, insert_or_remove,
+    longest, longest_of_all, planted, rules, some_expression, well_formed, with_rows, Leaning, Rng,
+    Size, EDGE_ADDRESSES,
 };
 use reference::{Description, Operand, Refusal, STEP_LIMIT};
 
@@ -92,13 +92,7 @@ impl<R: Request> Instructions<'_, R> {
 
     /// What a request is made about, at some address.
     fn given<'b>(&mut self, description: &'b [u8], context: u32, code: &'b [u8]) -> Given<'b> {
-        Given {
-            kind: self.kind,
-            description,
-            context,
-            address: address(self.rng),
-            code,
-        }
+        Given::somewhere(self.rng, self.kind, description, context, code)
     }
 
     /// Decodes with enough lent, then with about as much as needed.

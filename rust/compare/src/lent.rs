@@ -2,6 +2,8 @@
 
 use std::fmt::Debug;
 
+use generate::{address, Rng};
+
 use crate::agreed::{agreed, differ, hex};
 
 /// Elements on both sides of the lent ones.
@@ -14,6 +16,26 @@ pub struct Given<'a> {
     pub context: u32,
     pub address: u32,
     pub code: &'a [u8],
+}
+
+impl<'a> Given<'a> {
+    /// At some address.
+    pub fn somewhere(
+        rng: &mut Rng,
+        kind: &'static str,
+        description: &'a [u8],
+        context: u32,
+        code: &'a [u8],
+    ) -> Given<'a> {
+        let address = address(rng);
+        Given {
+            kind,
+            description,
+            context,
+            address,
+            code,
+        }
+    }
 }
 
 /// What may be lent.

@@ -3,8 +3,8 @@
 use dookerand::{Listing, LINE};
 use generate::example::{description_s, full_featured, target};
 use generate::{
-    address, bytes, change_bytes, change_records, code, context, decodable, insert_or_remove,
-    longest, longest_of_all, planted_stream, well_formed, with_rows, with_text, Leaning, Rng, Size,
+    bytes, change_bytes, change_records, code, context, decodable, insert_or_remove, longest,
+    longest_of_all, planted_stream, well_formed, with_rows, with_text, Leaning, Rng, Size,
 };
 use reference::{requests, Description};
 
@@ -127,13 +127,7 @@ impl Lists<'_> {
     /// Lists with more than enough room, with other rooms, from other places
     /// and in parts.
     fn all(&mut self, description: &[u8], context: u32, code: &[u8]) {
-        let given = Given {
-            kind: self.kind,
-            description,
-            context,
-            address: address(self.rng),
-            code,
-        };
+        let given = Given::somewhere(self.rng, self.kind, description, context, code);
         let lent = LINE * code.len() + self.rng.below(MORE);
         let Some(whole) = self.one(&given, 0, lent) else {
             for lent in [0, 1, LINE] {

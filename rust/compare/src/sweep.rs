@@ -2,8 +2,8 @@
 
 use generate::example::{description_s, full_featured, target};
 use generate::{
-    address, bytes, change_bytes, change_records, code, context, decodable, insert_or_remove,
-    longest, longest_of_all, planted_stream, well_formed, with_rows, with_text, Leaning, Rng, Size,
+    bytes, change_bytes, change_records, code, context, decodable, insert_or_remove, longest,
+    longest_of_all, planted_stream, well_formed, with_rows, with_text, Leaning, Rng, Size,
 };
 use reference::{requests, Description};
 
@@ -99,13 +99,7 @@ impl Sweeping<'_> {
     /// Sweeps with room for a row at each byte, then with about as much as
     /// needed.
     fn rooms(&mut self, description: &[u8], context: u32, code: &[u8]) {
-        let given = Given {
-            kind: self.kind,
-            description,
-            context,
-            address: address(self.rng),
-            code,
-        };
+        let given = Given::somewhere(self.rng, self.kind, description, context, code);
         let enough = code.len() + self.rng.below(2);
         let Some([end, rows]) = self.one(&given, enough) else {
             return;

@@ -2,7 +2,7 @@
 
 use reference::{Description, Expression, Field, Operand, Pattern, Step};
 
-use crate::example::{expression, field, literal, name, operand, shown, step};
+use crate::example::{computed, expression, field, literal, name, operand, shown, step};
 use crate::expressions::some_expression;
 use crate::rules::{
     add_expression, give_operands, give_pieces, good_operands, lengthen_text, lower_tables,
@@ -228,7 +228,7 @@ fn give_computed(d: &mut Description, rng: &mut Rng, expressions: &[Expression])
     let mut operands = Vec::new();
     for &expression in expressions {
         let index = add_expression(d, expression)?;
-        operands.push(operand(Operand::COMPUTED, index, 0, 0));
+        operands.push(computed(index));
     }
     give_operands(d, user, &operands)
 }
@@ -264,7 +264,7 @@ fn later_fields(d: &mut Description, rng: &mut Rng) -> Option<()> {
         step(Step::AND, 0),
     ];
     let index = add_expression(d, expression(&both))?;
-    let mut operands = [operand(Operand::COMPUTED, index, 0, 0); 8];
+    let mut operands = [computed(index); 8];
     operands[1] = operand(Operand::FIELD, context, 0, 0);
     operands[7] = operand(Operand::FIELD, field, 7, 0);
     give_operands(d, user, &operands)
@@ -273,7 +273,7 @@ fn later_fields(d: &mut Description, rng: &mut Rng) -> Option<()> {
 fn unused_expressions(d: &mut Description, _: &mut Rng) -> Option<()> {
     for number in [0, 9, 255] {
         let index = add_expression(d, expression(&[step(Step::OPERAND, number)]))?;
-        let unused = operand(Operand::COMPUTED, index, 0, 0);
+        let unused = computed(index);
         add(&mut d.operands, unused, LIMITS[3])?;
     }
     Some(())
@@ -283,7 +283,7 @@ fn unused_expressions(d: &mut Description, _: &mut Rng) -> Option<()> {
 fn shared_expression(d: &mut Description, rng: &mut Rng) -> Option<()> {
     let index = add_expression(d, expression(&[step(Step::OPERAND, 2)]))?;
     let field = operand(Operand::FIELD, some_field(d, rng, false)?, 0, 0);
-    let computed = operand(Operand::COMPUTED, index, 0, 0);
+    let computed = computed(index);
     for operands in [&[computed, field][..], &[field, field, computed]] {
         let user = some_constructor(d, rng);
         give_operands(d, user, operands)?;

@@ -28,6 +28,11 @@ pub fn operand(kind: u8, index: u8, anchor: u8, offset: u8) -> Operand {
     }
 }
 
+/// An operand that this expression computes.
+pub fn computed(index: u8) -> Operand {
+    operand(Operand::COMPUTED, index, 0, 0)
+}
+
 /// A piece that shows text.
 pub fn literal(offset: u16, length: u8) -> Piece {
     Piece {

@@ -2,7 +2,7 @@
 
 use reference::{Constructor, Description, Expression, Operand, Step, STEP_LIMIT};
 
-use crate::example::{expression, operand, step};
+use crate::example::{computed, expression, step};
 use crate::operators::near_power;
 use crate::write::LIMITS;
 use crate::Rng;
@@ -97,15 +97,15 @@ pub fn some_steps(rng: &mut Rng) -> usize {
 pub fn compute_some(rng: &mut Rng, d: &mut Description) {
     assert!(d.expressions.is_empty());
     let one_in = rng.pick(&[2, 4, 8]);
-    let mut computed = Vec::new();
+    let mut replaced = Vec::new();
     for record in 0..d.operands.len() {
         let is_field = d.operands[record].kind == Operand::FIELD;
-        if is_field && rng.once_in(one_in) && computed.len() < MOST {
-            d.operands[record] = operand(Operand::COMPUTED, 0, 0, 0);
-            computed.push(record);
+        if is_field && rng.once_in(one_in) && replaced.len() < MOST {
+            d.operands[record] = computed(0);
+            replaced.push(record);
         }
     }
-    for record in computed {
+    for record in replaced {
         if rng.once_in(8) {
             add_unused_expression(rng, d);
         }
@@ -125,7 +125,7 @@ fn add_unused_expression(rng: &mut Rng, d: &mut Description) {
     let unused = some_expression(rng, &numbers, 3);
     if rng.once_in(2) && d.operands.len() < LIMITS[3] {
         let index = d.expressions.len() as u8;
-        d.operands.push(operand(Operand::COMPUTED, index, 0, 0));
+        d.operands.push(computed(index));
     }
     d.expressions.push(unused);
 }

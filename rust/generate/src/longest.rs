@@ -2,7 +2,7 @@
 
 use reference::{Constructor, Description, Field, Name, Operand, Pattern, Piece, STEP_LIMIT};
 
-use crate::example::{literal, operand, shown};
+use crate::example::{computed, literal, operand, shown};
 use crate::expressions::{common_fields, some_expression};
 use crate::well_formed;
 use crate::write::LIMITS;
@@ -19,7 +19,7 @@ pub fn longest_of_all() -> Description {
             .clone()
             .rfind(|&i| d.operands[i].kind == Operand::FIELD);
         if let Some(field) = field {
-            d.operands[field] = operand(Operand::COMPUTED, expression as u8, 0, 0);
+            d.operands[field] = computed(expression as u8);
         }
         let fields = common_fields(&d, operands.start);
         d.expressions

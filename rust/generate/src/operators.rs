@@ -1,8 +1,8 @@
 //! Every operator on values at which something may change.
 
-use reference::{Description, Expression, Operand, Step};
+use reference::{Description, Expression, Step};
 
-use crate::example::{constructor, expression, operand, shown, step};
+use crate::example::{computed, constructor, expression, shown, step};
 
 /// Addresses at which something may change.
 pub const EDGE_ADDRESSES: [u32; 5] = [0, 1, 1 << 31, u32::MAX - 15, u32::MAX];
@@ -75,10 +75,9 @@ pub fn operators_on_addresses() -> impl Iterator<Item = Expression> {
 pub fn expression_table(expressions: &[Expression]) -> Description {
     let records = || 0..expressions.len();
     let instruction = |i: usize| constructor(0, 1, (0xff, i as u64), (i as u16, 1), (0, 1));
-    let computed = |i: usize| operand(Operand::COMPUTED, i as u8, 0, 0);
     Description {
         constructors: records().map(instruction).collect(),
-        operands: records().map(computed).collect(),
+        operands: records().map(|i| computed(i as u8)).collect(),
         pieces: vec![shown(1)],
         expressions: expressions.to_vec(),
         ..Description::default()

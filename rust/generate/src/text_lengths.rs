@@ -2,7 +2,7 @@
 
 use reference::{Constructor, Description, Field, Operand, Pattern, Piece, Step};
 
-use crate::example::{expression, field, literal, name, operand, shown, step};
+use crate::example::{computed, expression, field, literal, name, operand, shown, step};
 use crate::row_counts::parts;
 use crate::write::bytes;
 use crate::Rng;
@@ -155,7 +155,7 @@ impl Tower<'_> {
     fn number(&self, index: usize) -> Operand {
         match index.checked_sub(self.d.fields.len()) {
             None => operand(Operand::FIELD, index as u8, 0, 0),
-            Some(computed) => operand(Operand::COMPUTED, computed as u8, 0, 0),
+            Some(number) => computed(number as u8),
         }
     }
 

@@ -2,8 +2,8 @@
 
 use generate::bytes;
 use generate::example::{
-    branch, constructor, description_s, expression, field, literal, name, operand, shown, step,
-    target,
+    branch, computed, constructor, description_s, expression, field, literal, name, operand, shown,
+    step, target,
 };
 use reference::{
     check, decode, decode_text, list, listing, requests, sweep, Description, Expression, Field,
@@ -153,18 +153,11 @@ fn inner(operands: &[Operand], minimum: u8, offset: u8, steps: &[Step]) -> Descr
     check(&bytes(&d)).unwrap()
 }
 
-const COMPUTED: Operand = Operand {
-    kind: Operand::COMPUTED,
-    index: 0,
-    anchor: 0,
-    offset: 0,
-};
-
 /// The address after is behind the root, wherever the operand is.
 #[test]
 fn the_address_after_an_inner_constructor() {
     let after = [step(Step::ADDRESS_AFTER, 0)];
-    let mut d = inner(&[COMPUTED], 1, 2, &after);
+    let mut d = inner(&[computed(0)], 1, 2, &after);
     let rows: [Row; 3] = [[0, 1, 0, 3], [0, 0, 2, 1], [3, 0, 2, 0x13]];
     assert_eq!(decode(&d, 0, 0x10, &[0; 5]).unwrap(), rows);
     d.constructors[1].minimum_length = 5;
@@ -175,13 +168,13 @@ fn the_address_after_an_inner_constructor() {
 #[test]
 fn no_bytes() {
     let byte = operand(0, 0, 1, 1);
-    let d = inner(&[COMPUTED, byte], 0, 1, &[step(CONSTANT, 9)]);
+    let d = inner(&[computed(0), byte], 0, 1, &[step(CONSTANT, 9)]);
     let rows = [[0, 1, 0, 3], [0, 0, 1, 2], [3, 0, 1, 9], [1, 0, 2, 7]];
     assert_eq!(decode(&d, 0, 0, &[5, 6, 7]).unwrap(), rows);
     // Behind a field it is still at the start, and so is what it anchors.
     let byte = operand(0, 0, 0, 2);
     let after = operand(0, 0, 2, 1);
-    let d = inner(&[byte, COMPUTED, after], 0, 0, &[step(CONSTANT, 9)]);
+    let d = inner(&[byte, computed(0), after], 0, 0, &[step(CONSTANT, 9)]);
     let rows = [
         [0, 1, 0, 3],
         [0, 0, 0, 3],
@@ -192,7 +185,7 @@ fn no_bytes() {
     assert_eq!(decode(&d, 0, 0, &[5, 6, 7]).unwrap(), rows);
     // Nothing but computed operands has no length, whatever they come to.
     let outside = [step(CONSTANT, 1), step(Step::SHIFT_LEFT, 63)];
-    let mut d = inner(&[COMPUTED], 0, 0, &outside);
+    let mut d = inner(&[computed(0)], 0, 0, &outside);
     assert_eq!(decode(&d, 0, 0, &[1]), Err(Refusal::Outside { place: 0 }));
     d.constructors[1].minimum_length = 0;
     assert_eq!(decode(&d, 0, 0, &[1]), Err(Refusal::RootLengthZero));
@@ -201,7 +194,7 @@ fn no_bytes() {
 /// Short in a constructor past the input's end, and nowhere else.
 #[test]
 fn past_the_end_of_the_input() {
-    let d = inner(&[COMPUTED], 0, 5, &[step(CONSTANT, 9)]);
+    let d = inner(&[computed(0)], 0, 5, &[step(CONSTANT, 9)]);
     assert_eq!(decode(&d, 0, 0, &[1; 4]), Err(Refusal::Short { place: 5 }));
     let rows = [[0, 1, 0, 5], [0, 0, 5, 0], [3, 0, 5, 9]];
     assert_eq!(decode(&d, 0, 0, &[1; 5]).unwrap(), rows);
@@ -220,7 +213,7 @@ fn a_row_like_others() {
         operands: (0..32)
             .map(|i: u8| match i {
                 8 | 16 | 24 => operand(1, i / 8 - 1, 0, 0),
-                _ => COMPUTED,
+                _ => computed(0),
             })
             .collect(),
         expressions: vec![expression(&[step(CONSTANT, 1), step(Step::SHIFT_LEFT, 63)])],
@@ -242,7 +235,7 @@ fn operands_by_number() {
     // Later ones, and the context.
     let (byte, context) = (operand(0, 0, 0, 0), operand(0, 1, 0, 0));
     let difference = [step(OPERAND, 3), step(OPERAND, 2), step(Step::MINUS, 0)];
-    let d = inner(&[COMPUTED, byte, context], 0, 0, &difference);
+    let d = inner(&[computed(0), byte, context], 0, 0, &difference);
     let computed = |context| decode(&d, context, 0, &[200]).unwrap()[2];
     assert_eq!(computed(7), [3, 0, 0, 7 - 200]);
     // The context's look is signed here, the byte's is not.
@@ -251,7 +244,12 @@ fn operands_by_number() {
 
 #[test]
 fn a_name_field_counts_its_bits() {
-    let mut d = inner(&[operand(0, 0, 0, 0), COMPUTED], 0, 0, &[step(OPERAND, 1)]);
+    let mut d = inner(
+        &[operand(0, 0, 0, 0), computed(0)],
+        0,
+        0,
+        &[step(OPERAND, 1)],
+    );
     d.fields[0] = field(0, 1, 0, 4, 5, Field::NAMES);
     d.fields[0].first_name = 3;
     d.names = vec![name(0, 1); 7];
@@ -278,7 +276,7 @@ const OUTSIDE: [Step; 2] = [
 #[test]
 fn after_the_walk() {
     let byte = operand(0, 0, 0, 3);
-    let d = inner(&[COMPUTED, byte], 0, 1, &OUTSIDE);
+    let d = inner(&[computed(0), byte], 0, 1, &OUTSIDE);
     assert_eq!(decode(&d, 0, 0, &[1; 4]), Err(Refusal::Short { place: 4 }));
     let outside = Refusal::Outside { place: 1 };
     assert_eq!(decode(&d, 0, 0, &[1; 5]), Err(outside));
@@ -293,7 +291,7 @@ fn after_the_walk() {
 /// Before too long a text, and before too little room.
 #[test]
 fn before_the_limits_of_writing() {
-    let mut d = inner(&[COMPUTED], 1, 1, &OUTSIDE);
+    let mut d = inner(&[computed(0)], 1, 1, &OUTSIDE);
     d.text = vec![b'x'; 255];
     d.pieces = vec![shown(1), literal(0, 255), literal(0, 255)];
     d.constructors[0].piece_count = 2;
@@ -318,14 +316,14 @@ fn the_first_of_several() {
                 constructor(0, 1, (0, 0), (3, 1), (0, 0)),
                 constructor(1, 1, (0, 0), (0, 3), (0, 0)),
             ],
-            operands: [&operands[..], &[COMPUTED]].concat(),
+            operands: [&operands[..], &[computed(0)]].concat(),
             expressions: expressions.to_vec(),
             ..Description::default()
         };
         decode(&check(&bytes(&d)).unwrap(), 0, 0, &[0; 9])
     };
     let (bad, good) = (expression(&OUTSIDE), expression(&[Step::default()]));
-    let own = operand(2, 1, 0, 0);
+    let own = computed(1);
     let outside = |place| Err(Refusal::Outside { place });
     assert_eq!(d([table(3), own, table(5)], [bad, bad]), outside(3));
     assert_eq!(d([own, table(3), table(5)], [bad, bad]), outside(0));

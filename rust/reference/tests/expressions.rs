@@ -2,7 +2,7 @@
 
 use generate::bytes;
 use generate::example::{
-    constructor, description_s, expression, field, literal, operand, shown, step,
+    computed, constructor, description_s, expression, field, literal, operand, shown, step,
 };
 use reference::{check, Description, Expression, Fault, Operand, Step};
 
@@ -173,13 +173,6 @@ fn used(operands: &[Operand], expressions: &[Expression]) -> Option<Fault> {
     check(&bytes(&d)).err()
 }
 
-const COMPUTED: Operand = Operand {
-    kind: Operand::COMPUTED,
-    index: 0,
-    anchor: 0,
-    offset: 0,
-};
-
 fn names(number: i64) -> Expression {
     expression(&[step(Step::OPERAND, number)])
 }
@@ -188,7 +181,7 @@ fn names(number: i64) -> Expression {
 fn operands_of_a_user() {
     let (byte, context) = (operand(0, 0, 0, 0), operand(0, 1, 0, 0));
     let (table, unknown) = (operand(1, 0, 0, 0), operand(3, 0, 0, 0));
-    let operands = [COMPUTED, byte, table, context, COMPUTED];
+    let operands = [computed(0), byte, table, context, computed(0)];
     for (number, fits) in [
         (0, false),
         (1, false),
@@ -204,7 +197,7 @@ fn operands_of_a_user() {
     }
     // Operands past the user's are not its own.
     let mut d = description_s();
-    d.operands.insert(1, COMPUTED);
+    d.operands.insert(1, computed(0));
     d.operands[1].index = 0;
     d.expressions = vec![names(2)];
     d.constructors[1].first_operand = 1;
@@ -213,30 +206,33 @@ fn operands_of_a_user() {
     d.constructors[2].first_operand = 2;
     assert_eq!(check(&bytes(&d)).err(), None);
     // An unknown kind is no field: the constructor's fault before the operand's.
-    assert_eq!(used(&[COMPUTED, unknown], &[names(2)]), fault(3, 1));
-    assert_eq!(used(&[COMPUTED, unknown], &[names(0)]), fault(3, 1));
+    assert_eq!(used(&[computed(0), unknown], &[names(2)]), fault(3, 1));
+    assert_eq!(used(&[computed(0), unknown], &[names(0)]), fault(3, 1));
     // A field operand with a bad index is one all the same.
     let bad_field = operand(0, 2, 0, 0);
-    assert_eq!(used(&[COMPUTED, bad_field], &[names(2)]), fault(4, 1));
+    assert_eq!(used(&[computed(0), bad_field], &[names(2)]), fault(4, 1));
     // Any step counts.
     let last = [step(0, 0), step(1, 2), step(1, 1), step(4, 0), step(4, 0)];
-    assert_eq!(used(&[COMPUTED, byte], &[expression(&last)]), fault(3, 1));
+    assert_eq!(
+        used(&[computed(0), byte], &[expression(&last)]),
+        fault(3, 1)
+    );
 }
 
 #[test]
 fn what_is_no_expression_names_nothing() {
     let two = expression(&[step(1, 0), step(1, 9)]);
-    assert_eq!(used(&[COMPUTED], &[two]), fault(7, 0));
+    assert_eq!(used(&[computed(0)], &[two]), fault(7, 0));
     let far = expression(&[step(1, 0), step(10, 64)]);
-    assert_eq!(used(&[COMPUTED], &[far]), fault(7, 0));
+    assert_eq!(used(&[computed(0)], &[far]), fault(7, 0));
     let over = expression(&[step(1, 256)]);
-    assert_eq!(used(&[COMPUTED], &[over]), fault(7, 0));
+    assert_eq!(used(&[computed(0)], &[over]), fault(7, 0));
 }
 
 #[test]
 fn nobody_judges_what_nobody_uses() {
     let mut d = description_s();
-    d.operands.push(COMPUTED);
+    d.operands.push(computed(0));
     for number in [0, 1, 9, 255] {
         d.expressions = vec![names(number)];
         assert_eq!(check(&bytes(&d)).err(), None);
@@ -247,10 +243,10 @@ fn nobody_judges_what_nobody_uses() {
 fn the_operand_itself() {
     let byte = operand(0, 0, 0, 0);
     let constant = [expression(&[Step::default()])];
-    assert_eq!(used(&[byte, COMPUTED], &constant), None);
-    let past = operand(2, 1, 0, 0);
+    assert_eq!(used(&[byte, computed(0)], &constant), None);
+    let past = computed(1);
     assert_eq!(used(&[byte, past], &constant), fault(4, 1));
-    assert_eq!(used(&[byte, COMPUTED], &[]), fault(4, 1));
+    assert_eq!(used(&[byte, computed(0)], &[]), fault(4, 1));
     assert_eq!(used(&[byte, operand(2, 0, 1, 0)], &constant), fault(4, 1));
     assert_eq!(used(&[byte, operand(2, 0, 0, 1)], &constant), fault(4, 1));
     // An anchor that is not earlier is the user's fault, as for all operands.

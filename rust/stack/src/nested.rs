@@ -1,6 +1,6 @@
 //! Tables nested in each other.
 
-use generate::example::{constructor, expression, field, operand, shown, step};
+use generate::example::{computed, constructor, expression, field, operand, shown, step};
 use reference::{Description, Expression, Field, Operand, Step, STEP_LIMIT};
 
 /// What the innermost table has.
@@ -36,7 +36,7 @@ pub fn nested(depth: usize, inner: Inner) -> Description {
         ..Description::default()
     };
     if let Inner::Computed = inner {
-        d.operands[0] = operand(Operand::COMPUTED, 0, 0, 0);
+        d.operands[0] = computed(0);
         d.expressions.push(most_steps());
     }
     for table in 1..depth as u8 {

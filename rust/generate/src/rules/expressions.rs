@@ -1,9 +1,9 @@
 //! The rules of section 7, for used and for unused records.
 
-use reference::{Description, Expression, Fault, Operand, Step, STEP_LIMIT};
+use reference::{Description, Expression, Fault, Step, STEP_LIMIT};
 
 use super::{add_expression, fault, give_operands, some_constructor, Rule};
-use crate::example::{expression, operand, step};
+use crate::example::{computed, expression, step};
 use crate::expressions::some_expression;
 use crate::Rng;
 
@@ -31,7 +31,7 @@ fn put(d: &mut Description, rng: &mut Rng, bad: Expression) -> Option<Fault> {
     let index = add_expression(d, bad)?;
     if rng.once_in(2) {
         let user = some_constructor(d, rng);
-        give_operands(d, user, &[operand(Operand::COMPUTED, index, 0, 0)])?;
+        give_operands(d, user, &[computed(index)])?;
     }
     fault(7, index.into())
 }
@@ -163,6 +163,6 @@ fn wrong_name(d: &mut Description, rng: &mut Rng) -> Option<Fault> {
     };
     let index = add_expression(d, bad)?;
     let user = some_constructor(d, rng);
-    give_operands(d, user, &[operand(Operand::COMPUTED, index, 0, 0)])?;
+    give_operands(d, user, &[computed(index)])?;
     fault(7, index.into())
 }

@@ -6,7 +6,7 @@ use super::{
     add_expression, constant, fault, give_operands, good_operands, some_constructor, some_field,
     Rule,
 };
-use crate::example::{expression, operand, step};
+use crate::example::{computed, expression, operand, step};
 use crate::write::LIMITS;
 use crate::Rng;
 
@@ -118,12 +118,12 @@ fn no_expression(d: &Description, rng: &mut Rng) -> Option<u8> {
 
 fn expression_index(d: &mut Description, rng: &mut Rng) -> Option<Fault> {
     let index = no_expression(d, rng)?;
-    unused(d, operand(Operand::COMPUTED, index, 0, 0))
+    unused(d, computed(index))
 }
 
 fn expression_index_used(d: &mut Description, rng: &mut Rng) -> Option<Fault> {
     let index = no_expression(d, rng)?;
-    used(d, rng, operand(Operand::COMPUTED, index, 0, 0))
+    used(d, rng, computed(index))
 }
 
 fn computed_anchor_used(d: &mut Description, rng: &mut Rng) -> Option<Fault> {
@@ -156,10 +156,7 @@ fn bad_field_named(d: &mut Description, rng: &mut Rng) -> Option<Fault> {
     let user = some_constructor(d, rng);
     let index = add_expression(d, expression(&[step(Step::OPERAND, 2)]))?;
     let first = d.operands.len();
-    let operands = [
-        operand(Operand::COMPUTED, index, 0, 0),
-        operand(Operand::FIELD, past, 0, 0),
-    ];
+    let operands = [computed(index), operand(Operand::FIELD, past, 0, 0)];
     give_operands(d, user, &operands)?;
     fault(4, first + 1)
 }

@@ -7,7 +7,7 @@ use super::{
     add_expression, constant, fault, give_operands, give_pieces, good_operands, lower_tables,
     some_constructor, some_field, Rule,
 };
-use crate::example::{operand, shown, step};
+use crate::example::{computed, operand, shown, step};
 use crate::expressions::some_expression;
 use crate::write::LIMITS;
 use crate::Rng;
@@ -191,7 +191,7 @@ fn shown_twice(d: &mut Description, rng: &mut Rng) -> Option<Fault> {
 /// that expression.
 fn name_operand(d: &mut Description, rng: &mut Rng, user: usize, named: Operand) -> Option<Fault> {
     let number = rng.byte_within(1..=8);
-    let computed = computed(d, rng, number)?;
+    let computed = computed_naming(d, rng, number)?;
     let field = some_field(d, rng, false)?;
     let mut operands = [operand(Operand::FIELD, field, 0, 0); 8];
     let at = usize::from(number) - 1;
@@ -202,19 +202,19 @@ fn name_operand(d: &mut Description, rng: &mut Rng, user: usize, named: Operand)
 }
 
 /// A computed operand whose expression names this number somewhere.
-fn computed(d: &mut Description, rng: &mut Rng, number: u8) -> Option<Operand> {
+fn computed_naming(d: &mut Description, rng: &mut Rng, number: u8) -> Option<Operand> {
     let steps = rng.within(1..=16);
     let mut naming = some_expression(rng, &[number], steps);
     let terms = usize::from(naming.step_count);
     let term = rng.index_where(terms, |i| naming.steps[i].kind <= Step::ADDRESS_AFTER)?;
     naming.steps[term] = step(Step::OPERAND, number.into());
     let index = add_expression(d, naming)?;
-    Some(operand(Operand::COMPUTED, index, 0, 0))
+    Some(computed(index))
 }
 
 fn names_0(d: &mut Description, rng: &mut Rng) -> Option<Fault> {
     let user = some_constructor(d, rng);
-    let computed = computed(d, rng, 0)?;
+    let computed = computed_naming(d, rng, 0)?;
     use_operand(d, rng, user, computed)
 }
 
@@ -224,14 +224,14 @@ fn names_past(d: &mut Description, rng: &mut Rng) -> Option<Fault> {
     let past = rng.byte_within(count + 1..=255);
     let number = rng.pick(&[count + 1, count + 1, 9.max(count + 1), 255, past]);
     let mut operands = good_operands(d, rng, user, usize::from(count))?;
-    operands[rng.below(usize::from(count))] = computed(d, rng, number)?;
+    operands[rng.below(usize::from(count))] = computed_naming(d, rng, number)?;
     give_operands(d, user, &operands)?;
     fault(3, user)
 }
 
 fn names_itself(d: &mut Description, rng: &mut Rng) -> Option<Fault> {
     let user = some_constructor(d, rng);
-    let computed = computed(d, rng, 1)?;
+    let computed = computed_naming(d, rng, 1)?;
     give_operands(d, user, &[computed])?;
     fault(3, user)
 }
@@ -239,7 +239,7 @@ fn names_itself(d: &mut Description, rng: &mut Rng) -> Option<Fault> {
 fn names_computed(d: &mut Description, rng: &mut Rng) -> Option<Fault> {
     let user = some_constructor(d, rng);
     let index = constant(d)?;
-    name_operand(d, rng, user, operand(Operand::COMPUTED, index, 0, 0))
+    name_operand(d, rng, user, computed(index))
 }
 
 fn names_table(d: &mut Description, rng: &mut Rng) -> Option<Fault> {
@@ -260,7 +260,10 @@ fn names_for_another(d: &mut Description, rng: &mut Rng) -> Option<Fault> {
     let user = some_constructor(d, rng);
     let other = rng.index_where(d.constructors.len(), |i| i != user)?;
     let field = some_field(d, rng, false)?;
-    let operands = [computed(d, rng, 2)?, operand(Operand::FIELD, field, 0, 0)];
+    let operands = [
+        computed_naming(d, rng, 2)?,
+        operand(Operand::FIELD, field, 0, 0),
+    ];
     give_operands(d, user, &operands)?;
     give_pieces(d, other, &[])?;
     d.constructors[other].first_operand = d.constructors[user].first_operand;
