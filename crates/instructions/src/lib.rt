@@ -202,6 +202,24 @@ fn settle_walk(
     }
 }
 
+// The instruction at a place of the code, with its rows, where there may be values to be put in.
+fn settle_at(
+    desc: &[u8],
+    fixed: &mut [usize; FIXED],
+    context: u32,
+    address: u32,
+    code: &[u8],
+    at: usize,
+    rows: &mut [i64; SCRATCH],
+) -> Walked
+    requires { ⌜ Fixed (now desc) (now fixed) × (at ≤ length (now code)) × (now rows ≡ noRows) ⌝ }
+    ensures { λ r. ⌜ leaving r (now (rows .exit)) ≡ instructionAs (resultAt (now (desc .entry)) (now (fixed .entry)) (now (code .entry)) at context address) ⌝ }
+    ensures { λ _. ⌜ now (fixed .exit) ≡ toldLength (now (fixed .entry)) (now (code .entry)) at ⌝ }
+{
+    let walked = walking::walk_at(desc, fixed, context, code, at, rows);
+    settle_walk(desc, fixed, walked, (address as u64) + (at as u64), rows)
+}
+
 // The instruction at a place of the code, with its rows, which are zeros before and behind those used; a refusal leaves zeros. Only a
 // description with expressions has values to be put in.
 pub fn decode_at(
@@ -217,12 +235,10 @@ pub fn decode_at(
     ensures { λ r. ⌜ leaving r (now (rows .exit)) ≡ instructionAs (resultAt (now (desc .entry)) (now (fixed .entry)) (now (code .entry)) at context address) ⌝ }
     ensures { λ _. ⌜ now (fixed .exit) ≡ toldLength (now (fixed .entry)) (now (code .entry)) at ⌝ }
 {
-    let expressions = fixed[setting::EXPRESSIONS];
-    let walked = walking::walk_at(desc, fixed, context, code, at, rows);
-    if expressions == 0 {
-        return walked;
+    if fixed[setting::EXPRESSIONS] == 0 {
+        return walking::walk_at(desc, fixed, context, code, at, rows);
     }
-    settle_walk(desc, fixed, walked, (address as u64) + (at as u64), rows)
+    settle_at(desc, fixed, context, address, code, at, rows)
 }
 
 // What a sweep asks of an instruction.
@@ -255,5 +271,5 @@ pub fn step_at(
         return step_of(walking::step_at(desc, fixed, context, code, at));
     }
     let mut rows = [0i64; SCRATCH];
-    step_of(decode_at(desc, fixed, context, address, code, at, &mut rows))
+    step_of(settle_at(desc, fixed, context, address, code, at, &mut rows))
 }

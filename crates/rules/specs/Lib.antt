@@ -2,3 +2,4 @@
 pub mod Marks
 pub mod Judging
 pub mod FieldOperands
+pub mod Places

@@ -3,11 +3,15 @@ use Prim.Native.Nat.{ℕ, _<_}
 use mathlib.Core.Bool.{Bool, false}
 use mathlib.Core.List.{List}
 use mathlib.Core.Path.{_≡_}
-use lib.ListN.{getD}
+use lib.ListN.{getD, replicate}
 use Rattle.lists.specs.Tab.{tab}
 use Rattle.format.specs.Numbers.{byteValues}
 use Rattle.format.specs.Description.{Description}
 use Rattle.format.specs.Rules.{hasTable}
+
+-- no number that a byte may have is marked
+abbrev pub noMarks : List Bool
+noMarks = replicate byteValues false
 
 -- for each number that a byte may have, whether a constructor has it as its table
 unfoldable pub tableMarks : Description → List Bool

@@ -16,10 +16,11 @@ ghost use Rattle.lists.specs.Below.{allBelow};
 ghost use Rattle.format.specs.Numbers.{namesBits, byteValues};
 ghost use Rattle.format.specs.Layout.{SectionsInBounds};
 ghost use Rattle.format.specs.Description.{description, fieldsOf};
-ghost use Rattle.format.specs.Rules.{sourceOk, bitsOk, lookOk, fieldOk, nameOk, tableOk, minimumOk, valueOk, rangeOk, shapeOk, anchorFits, expressionFits, operandFits, pieceFits, constructorOk, fieldFits, operandOk, pieceOk, letterOk};
-ghost use Rattle.rules.specs.Marks.{tableMarks, shownMarks};
+ghost use Rattle.format.specs.Rules.{sourceOk, bitsOk, lookOk, fieldOk, nameOk, tableOk, minimumOk, valueOk, rangeOk, shapeOk, operandOf, anchorFits, expressionFits, operandFits, pieceFits, constructorOk, fieldFits, operandOk, pieceOk, letterOk};
+ghost use Rattle.rules.specs.Marks.{noMarks, tableMarks, shownMarks};
 ghost use Rattle.rules.specs.Judging.{Marked, Judging, Shaped};
 ghost use Rattle.rules.specs.FieldOperands.{withBit, FieldBits};
+ghost use Rattle.rules.specs.Places.{placeFits};
 
 // The marks of the operands shown so far.
 const SHOWN: u8 = 16;
@@ -138,12 +139,11 @@ fn shape_ok(desc: &[u8], layout: Layout, i: usize, c: Constructor) -> bool
         & range_ok(c.pieces, format::PIECES_EACH, layout.pieces.count)
 }
 
-// The tables that have a constructor, gathered once for all operands that name one.
-pub fn tables_of(desc: &[u8], layout: Layout) -> [bool; format::BYTE_VALUES]
-    requires { ⌜ SectionsInBounds (now desc) layout ⌝ }
-    ensures { λ r. ⌜ r ≡ tableMarks (description (now (desc .entry)) layout) ⌝ }
+// The tables that have a constructor, marked once for all operands that name one; nothing is marked before.
+pub fn mark_tables(desc: &[u8], layout: Layout, marks: &mut [bool; format::BYTE_VALUES])
+    requires { ⌜ SectionsInBounds (now desc) layout × (now marks ≡ noMarks) ⌝ }
+    ensures { λ _. ⌜ now (marks .exit) ≡ tableMarks (description (now (desc .entry)) layout) ⌝ }
 {
-    let mut marks = [false; format::BYTE_VALUES];
     let n = layout.constructors.count;
     let mut i = 0;
     while i < n {
@@ -151,7 +151,6 @@ pub fn tables_of(desc: &[u8], layout: Layout) -> [bool; format::BYTE_VALUES]
         marks[table] = true;
         i += 1;
     }
-    marks
 }
 
 // The word with this bit, if it is to be set.
@@ -215,24 +214,53 @@ fn expression_fits(desc: &[u8], layout: Layout, c: Constructor, x: Operand) -> b
     expressions::names_only(desc, at, field_operands(desc, layout, c))
 }
 
-// The constructor's operand o, from 0, fits it.
-fn used_fits(
+// The anchors and tables of the constructor's operands fit it.
+fn places_fit(
     desc: &[u8],
     layout: Layout,
     tables: &[bool; format::BYTE_VALUES],
     c: Constructor,
-    o: usize,
 ) -> bool
     requires { ⌜ Marked (now desc) layout (now tables) ⌝ }
-    requires { ⌜ Shaped (layout .operands .count) (layout .pieces .count) c × (o < c .operands .count) ⌝ }
-    ensures { λ r. ⌜ r ≡ operandFits (description (now (desc .entry)) layout) c o ⌝ }
+    requires { ⌜ Shaped (layout .operands .count) (layout .pieces .count) c ⌝ }
+    ensures { λ r. ⌜ r ≡ allBelow (c .operands .count) (placeFits (description (now (desc .entry)) layout) c) ⌝ }
 {
     let first = c.operands.first as usize;
-    let x = sections::operand_at(desc, layout, first + o);
-    if !operand_fits(x, tables, c.table, o) {
-        return false;
+    let n = c.operands.count as usize;
+    let mut o = 0;
+    while o < n {
+        let x = sections::operand_at(desc, layout, first + o);
+        let fits = operand_fits(x, tables, c.table, o);
+        if fits {
+            o += 1;
+        } else {
+            return false;
+        }
     }
-    expression_fits(desc, layout, c, x)
+    true
+}
+
+// The expressions that its operands name fit it. Most descriptions have none.
+fn expressions_fit(desc: &[u8], layout: Layout, c: Constructor) -> bool
+    requires { ⌜ SectionsInBounds (now desc) layout ⌝ }
+    requires { ⌜ Shaped (layout .operands .count) (layout .pieces .count) c ⌝ }
+    ensures { λ r. ⌜ r ≡ allBelow (c .operands .count) (λ o. expressionFits (description (now (desc .entry)) layout) c (operandOf (description (now (desc .entry)) layout) c o)) ⌝ }
+{
+    if layout.expressions.count == 0 {
+        return true;
+    }
+    let first = c.operands.first as usize;
+    let n = c.operands.count as usize;
+    let mut o = 0;
+    while o < n {
+        let x = sections::operand_at(desc, layout, first + o);
+        if expression_fits(desc, layout, c, x) {
+            o += 1;
+        } else {
+            return false;
+        }
+    }
+    true
 }
 
 fn operands_ok(
@@ -245,16 +273,11 @@ fn operands_ok(
     requires { ⌜ Shaped (layout .operands .count) (layout .pieces .count) c ⌝ }
     ensures { λ r. ⌜ r ≡ allBelow (c .operands .count) (operandFits (description (now (desc .entry)) layout) c) ⌝ }
 {
-    let n = c.operands.count as usize;
-    let mut o = 0;
-    while o < n {
-        if used_fits(desc, layout, tables, c, o) {
-            o += 1;
-        } else {
-            return false;
-        }
+    if places_fit(desc, layout, tables, c) {
+        expressions_fit(desc, layout, c)
+    } else {
+        false
     }
-    true
 }
 
 // A piece of a constructor with so many operands, where `shown` marks those that an earlier piece shows.

@@ -10,15 +10,15 @@ use Rattle.format.specs.Numbers.{tables, mostConstructors, expressionBytes}
 use Rattle.format.specs.Expression.{expressionAt, noExpression}
 use Rattle.format.specs.Check.{WellFormed}
 use Rattle.format.specs.Description.{Description, description}
-use Rattle.format.specs.Tables.{tableFirst, tableEnd}
+use Rattle.format.specs.Tables.{rootOf, tableFirst, tableEnd}
 use Rattle.format.specs.declared.Layout.{Layout}
 use Rattle.format.proofs.Formation.{RulesHold, obeyed}
 use Rattle.format.proofs.Lists.{constructors-length, expressions-length, expression-here}
-use Rattle.format.proofs.Tables.{end-is, first-within}
+use Rattle.format.proofs.Tables.{table-low, end-is, first-within, end-within}
 use Rattle.tables.specs.Starts.{tableStarts}
 use Rattle.tables.proofs.FirstConstructors.{starts-length, start-at}
 use Rattle.tables.specs.declared.Table.{Table}
-use Rattle.tables.proofs.Range.{in-section}
+use Rattle.tables.proofs.Range.{in-section, root-end}
 use Rattle.choosing_spec.specs.Choosing.{choose}
 use Rattle.choosing_spec.specs.declared.Choice.{Choice}
 use Rattle.choosing_spec.specs.declared.Choice.the-variants as choice
@@ -27,7 +27,7 @@ use Rattle.choosing_theorems.proofs.Taken.{taken-facts}
 use Rattle.decoding_spec.specs.State.{Setting, withTotal}
 use Rattle.decoding_spec.specs.Walk.{numberedFrom, choiceIn}
 use Rattle.setting.specs.Fixed.{totalPlace, gatheredPlace, startsPlace, flag, startsOf, fixedOf, layoutIn, expressionStart, settingIn, Fixed}
-use Rattle.setting.specs.Ranges.{RangeOf}
+use Rattle.setting.specs.Ranges.{RangeOf, chosenAmong}
 
 -- each record obeys its rules
 pub obeyed-in : (b a : List ℕ) → Fixed b a → RulesHold (settingIn b a .description)
@@ -93,13 +93,33 @@ module _ (d : Description) (o : RulesHold d) (t : ℕ) (r : Table) (range : Rang
   pub range-inside : r .first + r .count ≤ length (d .constructors)
   range-inside = in-section d o t (r .first) (r .count) (range .first) (range .count)
 
-  module _ (s : List ℕ) (c : ℕ) where
-    pub chosen : (q : Choice) → choose (patternFrom d (r .first)) (r .count) s c ≡ q → numberedFrom (r .first) q ≡ choiceIn d t s c
-    unfolding choiceIn
-    chosen q e = rw (← e, range .count, range .first)
+  pub chosen : (s : List ℕ) (c : ℕ) → chosenAmong d r s c ≡ choiceIn d t s c
+  unfolding choiceIn
+  chosen s c = rw (range .count, range .first)
 
-    pub taken-inside : (j : ℕ) → choose (patternFrom d (r .first)) (r .count) s c ≡ choice.Taken j → r .first + j < length (d .constructors)
-    taken-inside j e = omega (arith, taken-facts (patternFrom d (r .first)) (r .count) s c j e .within, range-inside)
+-- by what was chosen
+module _ (d : Description) (r : Table) (s : List ℕ) (c : ℕ) (q : Choice) (e : choose (patternFrom d (r .first)) (r .count) s c ≡ q) where
+  pub among : numberedFrom (r .first) q ≡ chosenAmong d r s c
+  among = ap (numberedFrom (r .first)) (sym e)
+
+pub taken-inside : (d : Description) (r : Table) (s : List ℕ) (c j : ℕ) → choose (patternFrom d (r .first)) (r .count) s c ≡ choice.Taken j
+    → r .first + r .count ≤ length (d .constructors) → r .first + j < length (d .constructors)
+taken-inside d r s c j e h = omega (arith, taken-facts (patternFrom d (r .first)) (r .count) s c j e .within)
+
+-- the root's range, where the tables' first constructors were gathered
+module _ (d : Description) (o : RulesHold d) (some : 1 ≤ length (d .constructors)) where
+  pub root-low : rootOf d < tables
+  root-low = table-low d o (length (d .constructors) - 1) (omega arith)
+
+  module _ (a : List ℕ) (starts : drop startsPlace a ≡ tableStarts d) (n : ℕ) (e : n ≡ length (d .constructors)) where
+    first : getD a (startsPlace + rootOf d) 0 ≡ tableFirst d (rootOf d)
+    first = gathered-range d o (rootOf d) root-low a starts .first
+
+    pub root-first-within : getD a (startsPlace + rootOf d) 0 ≤ n
+    root-first-within = omega (arith, first, first-within d o (rootOf d), end-within d o (rootOf d))
+
+    pub gathered-root : RangeOf d (rootOf d) (record { first = getD a (startsPlace + rootOf d) 0; count = n - getD a (startsPlace + rootOf d) 0 })
+    gathered-root = record { first = first; count = rw (first, root-end d o some, e) }
 
 -- the input's length
 pub total-in : (b a : List ℕ) → settingIn b a .total ≡ getD a totalPlace 0

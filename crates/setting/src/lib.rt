@@ -19,7 +19,7 @@ ghost use Rattle.format.specs.Tables.{rootOf};
 ghost use Rattle.decoding_spec.specs.Walk.{choiceIn};
 ghost use mathlib.Core.Bool.{true};
 ghost use Rattle.setting.specs.Fixed.{expressionStart, startsOf, fixedOf, layoutIn, settingIn, Fixed, startsPlace};
-ghost use Rattle.setting.specs.Ranges.{RangeOf};
+ghost use Rattle.setting.specs.Ranges.{RangeOf, chosenAmong};
 
 const TEXT_START: usize = 10;
 
@@ -186,18 +186,34 @@ fn range_of(desc: &[u8], fixed: &[usize; FIXED], t: u8) -> Table
     tables::table_of(desc, layout_of(fixed), t as u32)
 }
 
-// The choice in a table, by the number of the constructor taken.
-pub fn choose_at(
+// The root's, which are the section's last ones.
+fn root_range(desc: &[u8], fixed: &[usize; FIXED]) -> Table
+    requires { ⌜ Fixed (now desc) (now fixed) ⌝ }
+    ensures { λ r. ⌜ RangeOf (settingIn (now (desc .entry)) (now (fixed .entry)) .description) (rootOf (settingIn (now (desc .entry)) (now (fixed .entry)) .description)) r ⌝ }
+{
+    let layout = layout_of(fixed);
+    if fixed[GATHERED] == 1 {
+        let root = tables::root(desc, layout) as usize;
+        let first = fixed[STARTS + root];
+        return Table {
+            first,
+            count: layout.constructors.count - first,
+        };
+    }
+    tables::root_table(desc, layout)
+}
+
+// The choice among these constructors, by the number of the one taken.
+fn choose_among(
     desc: &[u8],
     fixed: &[usize; FIXED],
-    table: u8,
+    range: Table,
     code: &[u8],
     context: u64,
 ) -> Choice
-    requires { ⌜ Fixed (now desc) (now fixed) × (table < tables) ⌝ }
-    ensures { λ r. ⌜ r ≡ choiceIn (settingIn (now (desc .entry)) (now (fixed .entry)) .description) table (now (code .entry)) context ⌝ }
+    requires { ⌜ Fixed (now desc) (now fixed) × (range .first + range .count ≤ length (settingIn (now desc) (now fixed) .description .constructors)) ⌝ }
+    ensures { λ r. ⌜ r ≡ chosenAmong (settingIn (now (desc .entry)) (now (fixed .entry)) .description) range (now (code .entry)) context ⌝ }
 {
-    let range = range_of(desc, fixed, table);
     let layout = layout_of(fixed);
     let choice = choosing::choose_in(
         desc,
@@ -217,6 +233,30 @@ pub fn choose_at(
         }
         Choice::Ambiguous => Choice::Ambiguous,
     }
+}
+
+// The choice in a table.
+pub fn choose_at(
+    desc: &[u8],
+    fixed: &[usize; FIXED],
+    table: u8,
+    code: &[u8],
+    context: u64,
+) -> Choice
+    requires { ⌜ Fixed (now desc) (now fixed) × (table < tables) ⌝ }
+    ensures { λ r. ⌜ r ≡ choiceIn (settingIn (now (desc .entry)) (now (fixed .entry)) .description) table (now (code .entry)) context ⌝ }
+{
+    let range = range_of(desc, fixed, table);
+    choose_among(desc, fixed, range, code, context)
+}
+
+// The choice in the root. It has a function of its own, short enough to stand in each place that asks for it.
+pub fn choose_root(desc: &[u8], fixed: &[usize; FIXED], code: &[u8], context: u64) -> Choice
+    requires { ⌜ Fixed (now desc) (now fixed) ⌝ }
+    ensures { λ r. ⌜ r ≡ choiceIn (settingIn (now (desc .entry)) (now (fixed .entry)) .description) (rootOf (settingIn (now (desc .entry)) (now (fixed .entry)) .description)) (now (code .entry)) context ⌝ }
+{
+    let range = root_range(desc, fixed);
+    choose_among(desc, fixed, range, code, context)
 }
 
 // So many bytes of the text section, from an offset on.

@@ -61,6 +61,19 @@ pub fn table_of(desc: &[u8], layout: Layout, t: u32) -> Table
     }
 }
 
+// The root's constructors: they are the last ones, so one search finds them.
+pub fn root_table(desc: &[u8], layout: Layout) -> Table
+    requires { ⌜ WellFormed (now desc) layout ⌝ }
+    ensures { λ r. ⌜ r .first ≡ tableFirst (description (now (desc .entry)) layout) (rootOf (description (now (desc .entry)) layout)) ⌝ }
+    ensures { λ r. ⌜ r .count ≡ tableCount (description (now (desc .entry)) layout) (rootOf (description (now (desc .entry)) layout)) ⌝ }
+{
+    let first = first_from(desc, layout, root(desc, layout) as usize);
+    Table {
+        first,
+        count: layout.constructors.count - first,
+    }
+}
+
 fn is_below(desc: &[u8], layout: Layout, i: usize, t: usize) -> bool
     requires { ⌜ SectionsInBounds (now desc) layout ⌝ }
     ensures { λ r. ⌜ r ≡ (ltb i (layout .constructors .count) && ltb (tableAt (description (now (desc .entry)) layout) i) t) ⌝ }

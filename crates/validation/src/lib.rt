@@ -278,7 +278,8 @@ fn first_fault(desc: &[u8], layout: Layout) -> Checked
             record: name,
         };
     }
-    let tables = rules::tables_of(desc, layout);
+    let mut tables = [false; format::BYTE_VALUES];
+    rules::mark_tables(desc, layout, &mut tables);
     let constructor = bad_constructor(desc, layout, &tables);
     if constructor < layout.constructors.count {
         return Checked::Fault {

@@ -20,9 +20,10 @@ use Rattle.decoding_spec.specs.Tree.{Node, Nodes, none, more}
 use Rattle.decoding_spec.specs.Walk.{Result, done, refused, andThen, choiceIn, startOf, closing, fieldFrom, computedFrom, operandFrom, operandsFrom, constructorFrom, taking, tableFrom, walkFrom, Walker, rejectEmpty, walkedFrom}
 use Rattle.decoding_spec.specs.declared.State.{State}
 use Rattle.decoding_spec.specs.declared.Refusal.{Refusal}
-use Rattle.decoding_spec.specs.declared.Refusal.the-variants.{TooFar, TooManyRows, RootLengthZero}
+use Rattle.decoding_spec.specs.declared.Refusal.the-variants.{Short, NoMatch, Ambiguous, TooFar, TooManyRows, RootLengthZero}
 use Rattle.walking.specs.Scratch.{sizedOf, sizedOfAll, written}
-use Rattle.walking.specs.Walks.{WalksTo, Walks, Finished, Within, Closes}
+use Rattle.walking.specs.Walks.{WalksTo, Walks, Finished, Within, Closes, chosenAs, rootChosen}
+use Rattle.walking.specs.declared.Chosen.the-variants as chosen
 use Rattle.walking.specs.declared.Walked.{Walked}
 use Rattle.walking.specs.declared.Walked.the-variants.{Done, Refused}
 use Rattle.walking.proofs.Steps.{code-from, refuses, finishes, was-refused, was-done, within, WasDone}
@@ -204,6 +205,20 @@ unfolding constructorFrom
 constructor-closes g n k k′ s at st st′ minimum total walked r old mid new e m q t h f =
     record { to = λ depth room. rw (← e, ← m) (f g t _ old (subst (λ (u : State). WalksTo sizedOfAll (operandsFrom g (walkFrom g depth) (k .operands .first) s at (k .operands .count) 0 (replicate (operandsEach + 1) 0) 0 u) walked at (u .used) old mid) q (h .to depth (rw q (omega arith))))) }
 
+-- what a choice comes to
+pub was-taken : (at t n : ℕ) (q : Choice) → chosenAs at t q ≡ chosen.Number n → q ≡ choice.Taken n
+was-taken at t n choice.Short e = let z : _≡_ {A = ℕ} 0 1 = cc e in absurd (omega arith)
+was-taken at t n choice.NoMatch e = let z : _≡_ {A = ℕ} 0 1 = cc e in absurd (omega arith)
+was-taken at t n (choice.Taken k) e = let z : k ≡ n = cc e in rw z
+was-taken at t n choice.Ambiguous e = let z : _≡_ {A = ℕ} 0 1 = cc e in absurd (omega arith)
+
+unchosen : (g : Setting) (t : ℕ) (s : List ℕ) (at : ℕ) (st : State) (r : Refusal) (w : Walker) (q : Choice) → chosenAs at t q ≡ chosen.Refused r
+    → taking g w t s at st q ≡ refused r
+unchosen g t s at st r w choice.Short e = let z : Short at ≡ r = cc e in rw z
+unchosen g t s at st r w choice.NoMatch e = let z : NoMatch at t ≡ r = cc e in rw z
+unchosen g t s at st r w (choice.Taken k) e = let z : _≡_ {A = ℕ} 0 1 = cc e in absurd (omega arith)
+unchosen g t s at st r w choice.Ambiguous e = let z : Ambiguous at t ≡ r = cc e in rw z
+
 -- a table: "7, 6, 2, 3, 4"
 module _ (g : Setting) (t : ℕ) (s : List ℕ) (at : ℕ) (st : State) (old new : List ℤ) where
   abbrev Comes : Walked → Type 0
@@ -227,32 +242,32 @@ module _ (g : Setting) (t : ℕ) (s : List ℕ) (at : ℕ) (st : State) (old new
         go (suc depth) k = refuses _ _ _ _ _ _ _ (rw (lt-leb mostRows (st .used) room, lt-ltb longest at h))
 
     module _ (near : at ≤ longest) where
-      pub table-refused : (r : Refusal) (q : Choice) → q ≡ choiceIn (g .description) t s (st .context)
-          → ((w : Walker) → taking g w t s at st q ≡ refused r) → Comes (Refused r)
+      pub table-refused : (r : Refusal) (q : Choice) → q ≡ choiceIn (g .description) t s (st .context) → chosenAs at t q ≡ chosen.Refused r
+          → Comes (Refused r)
       unfolding walkFrom tableFrom
       table-refused r q e f = record { to = go }
         where
           go : (depth : ℕ) → mostRows < st .used + depth → WalksTo sizedOf (walkFrom g depth t s at st) (Refused r) at (st .used) old new
           go zero k = absurd (omega arith)
           go (suc depth) k =
-              refuses _ _ _ _ _ _ _ (rw (lt-leb mostRows (st .used) room, le-ltb longest at near, ← e) (f (walkFrom g depth)))
+              refuses _ _ _ _ _ _ _ (rw (lt-leb mostRows (st .used) room, le-ltb longest at near, ← e) (unchosen g t s at st r (walkFrom g depth) q f))
 
-      pub table-taken : (n : ℕ) (r : Walked) → choice.Taken n ≡ choiceIn (g .description) t s (st .context)
+      pub table-taken : (n : ℕ) (r : Walked) (q : Choice) → q ≡ choiceIn (g .description) t s (st .context) → chosenAs at t q ≡ chosen.Number n
           → Walks sizedOf (λ depth. constructorFrom g (walkFrom g depth) n (getD (g .description .constructors) n noConstructor) s at st) r at (st .used + 1) (st .used) old new
           → Comes r
       unfolding walkFrom tableFrom
-      table-taken n r e f = record { to = go }
+      table-taken n r q e f h = record { to = go }
         where
           go : (depth : ℕ) → mostRows < st .used + depth → WalksTo sizedOf (walkFrom g depth t s at st) r at (st .used) old new
           go zero k = absurd (omega arith)
           go (suc depth) k =
-              rw (lt-leb mostRows (st .used) room, le-ltb longest at near, ← e) (f .to depth (omega arith))
+              rw (lt-leb mostRows (st .used) room, le-ltb longest at near, ← e, was-taken at t n q f) (h .to depth (omega arith))
 
 -- "At the root's end: 8"
-module _ (g : Setting) (c : ℕ) (s : List ℕ) (t : ℕ) (e : t ≡ rootOf (g .description)) (w : Walked) (old new : List ℤ)
-    (walks : Walks sizedOf (λ depth. walkFrom g depth t s 0 (starting c)) w 0 0 0 old new) where
+module _ (g : Setting) (c : ℕ) (s : List ℕ) (w : Walked) (old new : List ℤ)
+    (walks : Walks sizedOf (λ depth. walkFrom g depth (rootOf (g .description)) s 0 (starting c)) w 0 0 0 old new) where
   root : WalksTo sizedOf (walkFrom g (suc mostRows) (rootOf (g .description)) s 0 (starting c)) w 0 0 old new
-  root = rw e at (walks .to (suc mostRows) (omega arith))
+  root = walks .to (suc mostRows) (omega arith)
 
   pub root-refused : (r : Refusal) → w ≡ Refused r → WalksTo sizedOf (walkedFrom g c s) (Refused r) 0 0 old new
   unfolding walkedFrom
@@ -269,3 +284,17 @@ module _ (g : Setting) (c : ℕ) (s : List ℕ) (t : ℕ) (e : t ≡ rootOf (g .
     pub root-done : (l ≡ 0 → ⊥) → WalksTo sizedOf (walkedFrom g c s) (Done st l) 0 0 old new
     unfolding walkedFrom
     root-done z = finishes sizedOf _ 0 0 old new (was .found) l st (ap rejectEmpty (was .is) ∙ rw (ne-eqb l 0 z)) (was .finished)
+
+-- the root's choice
+module _ (g : Setting) (c : ℕ) (s : List ℕ) where
+  -- refused, before a row was written
+  pub root-unchosen : (old : List ℤ) (r : Refusal) → rootChosen (g .description) c s ≡ chosen.Refused r
+      → WalksTo sizedOf (walkedFrom g c s) (Refused r) 0 0 old old
+  root-unchosen old r e =
+      root-refused g c s _ old old (table-refused g _ s 0 (starting c) old old (omega arith) (omega arith) r _ refl e) r refl
+
+  -- taken
+  pub root-taken : (n : ℕ) (r : Walked) (old new : List ℤ) → rootChosen (g .description) c s ≡ chosen.Number n
+      → Walks sizedOf (λ depth. constructorFrom g (walkFrom g depth) n (getD (g .description .constructors) n noConstructor) s 0 (starting c)) r 0 1 0 old new
+      → Walks sizedOf (λ depth. walkFrom g depth (rootOf (g .description)) s 0 (starting c)) r 0 0 0 old new
+  root-taken n r old new e h = table-taken g _ s 0 (starting c) old new (omega arith) (omega arith) n r _ refl e h

@@ -6,21 +6,27 @@ use mathlib.Core.Path.{_≡_}
 use lib.IntN.{ℤ, pos}
 use lib.ListN.{length, getD, replicate, set, drop}
 use Rattle.format.specs.Numbers.{longest, mostRows, operandsEach}
-use Rattle.format.specs.Description.{noField, noConstructor}
+use Rattle.format.specs.Description.{Description, noField, noConstructor}
+use Rattle.format.specs.Tables.{rootOf}
 use Rattle.format.specs.declared.Field.{Field}
 use Rattle.format.specs.declared.Constructor.{Constructor}
 use Rattle.format.specs.declared.Operand.{Operand}
 use Rattle.fields.specs.Value.{valueOf, Readable}
 use Rattle.fields.specs.Look.{lookOf, numberOf}
 use Rattle.fields.specs.declared.Look.the-variants as look
+use Rattle.choosing_spec.specs.declared.Choice.{Choice}
+use Rattle.choosing_spec.specs.declared.Choice.the-variants as choice
 use Rattle.decoding_spec.specs.State.{Setting, counted}
 use Rattle.decoding_spec.specs.Tree.{Node, Nodes}
-use Rattle.decoding_spec.specs.Walk.{Result, done, refused, widthOf, closing, shownAs, fieldFrom, computedFrom, operandFrom, operandsFrom, constructorFrom, walkFrom, walkedFrom, walkedOf}
+use Rattle.decoding_spec.specs.Walk.{Result, done, refused, choiceIn, widthOf, closing, shownAs, fieldFrom, computedFrom, operandFrom, operandsFrom, constructorFrom, walkFrom, walkedFrom, walkedOf}
 use Rattle.decoding_spec.specs.declared.State.{State}
+use Rattle.decoding_spec.specs.declared.Refusal.the-variants.{Short, NoMatch, Ambiguous}
 use Rattle.format.specs.Rules.{bitsOf}
 use Rattle.decoding_theorems.specs.Usable.{Placed, Usable}
 use Rattle.setting.specs.Fixed.{Fixed, settingIn, totalPlace}
 use Rattle.walking.specs.Scratch.{scratchLength, SizedRow, sized, sizedOf, sizedOfAll, written}
+use Rattle.walking.specs.declared.Chosen.{Chosen}
+use Rattle.walking.specs.declared.Chosen.the-variants as chosen
 use Rattle.walking.specs.declared.Walked.{Walked}
 use Rattle.walking.specs.declared.Walked.the-variants.{Done, Refused}
 
@@ -152,6 +158,17 @@ pub record ConstructorAt (b a : List ℕ) (n at : ℕ) (st : State) : Type 0 whe
   pub within : n < length (settingIn b a .description .constructors)
   pub near : at ≤ longest
   pub room : st .used < mostRows
+
+-- what a choice in a table comes to at a place: "2, 3, 4", or the constructor taken
+abbrev pub chosenAs : (at t : ℕ) → Choice → Chosen
+chosenAs at t choice.Short = chosen.Refused (Short at)
+chosenAs at t choice.NoMatch = chosen.Refused (NoMatch at t)
+chosenAs at t (choice.Taken n) = chosen.Number n
+chosenAs at t choice.Ambiguous = chosen.Refused (Ambiguous at t)
+
+-- the root's, at the code's start
+abbrev pub rootChosen : Description → ℕ → List ℕ → Chosen
+rootChosen d c s = chosenAs 0 (rootOf d) (choiceIn d (rootOf d) s c)
 
 -- the root's walk, with its own end
 abbrev pub RootWalks : (b a : List ℕ) → ℕ → List ℕ → List ℤ → Walked → List ℤ → Type 0

@@ -16,8 +16,9 @@ ghost use Rattle.fields.specs.Value.{Readable};
 ghost use Rattle.decoding_spec.specs.State.{counted};
 ghost use Rattle.decoding_spec.specs.Walk.{widthOf};
 ghost use Rattle.setting.specs.Fixed.{Fixed, settingIn, totalPlace};
+ghost use Rattle.walking.specs.declared.Chosen.the-variants.{Number};
 ghost use Rattle.walking.specs.Scratch.{sized, written};
-ghost use Rattle.walking.specs.Walks.{beyondPlaces, Ready, Within, Closes, Showable, ShownWalks, FieldWalks, ComputedWalks, OperandWalks, OperandsWalk, ConstructorWalks, TableWalks, RootWalks, PutsNumber, PlacedAt, UsableAt, ConstructorAt, answerOf, instructionAs, walkedAt, toldLength, noRows, leaving};
+ghost use Rattle.walking.specs.Walks.{beyondPlaces, Ready, Within, Closes, Showable, ShownWalks, FieldWalks, ComputedWalks, OperandWalks, OperandsWalk, ConstructorWalks, TableWalks, chosenAs, rootChosen, RootWalks, PutsNumber, PlacedAt, UsableAt, ConstructorAt, answerOf, instructionAs, walkedAt, toldLength, noRows, leaving};
 
 // A scratch row's numbers: those of a row, and its size. And the scratch buffer's numbers, for all rows.
 pub const SCRATCH_NUMBERS: usize = 5;
@@ -32,6 +33,12 @@ const LONGEST: usize = format::LONGEST as usize;
 // The state behind a walk, and its length; or the refusal.
 pub enum Walked {
     Done { state: State, length: usize },
+    Refused(Refusal),
+}
+
+// What a choice comes to: a constructor's number, or a refusal.
+enum Chosen {
+    Number(usize),
     Refused(Refusal),
 }
 
@@ -257,6 +264,25 @@ fn close(
     }
 }
 
+// What a choice in a table comes to at a place.
+fn judge(choice: Choice, at: usize, table: u8) -> Chosen
+    requires { ⌜ at < beyondPlaces ⌝ }
+    ensures { λ r. ⌜ r ≡ chosenAs at table choice ⌝ }
+{
+    match choice {
+        Choice::Short => Chosen::Refused(Refusal::Short(at as u16)),
+        Choice::NoMatch => Chosen::Refused(Refusal::NoMatch {
+            place: at as u16,
+            table,
+        }),
+        Choice::Taken(number) => Chosen::Number(number),
+        Choice::Ambiguous => Chosen::Refused(Refusal::Ambiguous {
+            place: at as u16,
+            table,
+        }),
+    }
+}
+
 // An operand that starts so far behind its constructor; past the code's end that is no bytes.
 fn walk_operand(
     desc: &[u8],
@@ -383,38 +409,41 @@ fn walk_table(
         return Walked::Refused(Refusal::TooFar(at as u16));
     }
     let choice = setting::choose_at(desc, fixed, table, code, state.context);
-    match choice {
-        Choice::Short => Walked::Refused(Refusal::Short(at as u16)),
-        Choice::NoMatch => Walked::Refused(Refusal::NoMatch {
-            place: at as u16,
-            table,
-        }),
-        Choice::Taken(number) => walk_constructor(desc, fixed, number, code, at, rows, state),
-        Choice::Ambiguous => Walked::Refused(Refusal::Ambiguous {
-            place: at as u16,
-            table,
-        }),
+    let chosen = judge(choice, at, table);
+    match chosen {
+        Chosen::Number(number) => walk_constructor(desc, fixed, number, code, at, rows, state),
+        Chosen::Refused(refusal) => Walked::Refused(refusal),
     }
 }
 
-// The walk at the code's start: the root, with all of the code.
+// The choice at the code's start, in the root.
+fn choose_root(desc: &[u8], fixed: &[usize; FIXED], context: u32, code: &[u8]) -> Chosen
+    requires { ⌜ Fixed (now desc) (now fixed) ⌝ }
+    ensures { λ r. ⌜ r ≡ rootChosen (settingIn (now (desc .entry)) (now (fixed .entry)) .description) context (now (code .entry)) ⌝ }
+{
+    let choice = setting::choose_root(desc, fixed, code, context as u64);
+    judge(choice, 0, setting::root(desc, fixed))
+}
+
+// The walk at the code's start, of the root's constructor of this number, with all of the code.
 fn walk_root(
     desc: &[u8],
     fixed: &[usize; FIXED],
+    number: usize,
     context: u32,
     code: &[u8],
     rows: &mut [i64],
 ) -> Walked
     requires { ⌜ Fixed (now desc) (now fixed) × (length (now code) ≡ settingIn (now desc) (now fixed) .total) ⌝ }
+    requires { ⌜ rootChosen (settingIn (now desc) (now fixed) .description) context (now code) ≡ Number number ⌝ }
     ensures { λ r. ⌜ RootWalks (now (desc .entry)) (now (fixed .entry)) context (now (code .entry)) (now (rows .entry)) r (now (rows .exit)) ⌝ }
 {
-    let root = setting::root(desc, fixed);
     let start = State {
         used: 0,
         context: context as u64,
         taken: 0,
     };
-    let walked = walk_table(desc, fixed, root, code, 0, rows, start);
+    let walked = walk_constructor(desc, fixed, number, code, 0, rows, start);
     match walked {
         Walked::Refused(refusal) => Walked::Refused(refusal),
         Walked::Done { state, length } => {
@@ -439,11 +468,18 @@ pub fn step_at(
     ensures { λ _. ⌜ now (fixed .exit) ≡ toldLength (now (fixed .entry)) (now (code .entry)) at ⌝ }
 {
     fixed[setting::TOTAL] = code.len() - at;
-    let mut none = [0i64; 1];
-    walk_root(desc, fixed, context, &code[at..], &mut none)
+    let chosen = choose_root(desc, fixed, context, &code[at..]);
+    match chosen {
+        Chosen::Refused(refusal) => Walked::Refused(refusal),
+        Chosen::Number(number) => {
+            let mut none = [0i64; 1];
+            walk_root(desc, fixed, number, context, &code[at..], &mut none)
+        }
+    }
 }
 
-// The walk at a place of the code, with its rows, which are zeros before and behind those used; a refusal leaves zeros.
+// The walk at a place of the code, with its rows, which are zeros before and behind those used; a refusal leaves zeros. Most refusals
+// are the root's, before a row was written.
 pub fn walk_at(
     desc: &[u8],
     fixed: &mut [usize; FIXED],
@@ -457,12 +493,18 @@ pub fn walk_at(
     ensures { λ _. ⌜ now (fixed .exit) ≡ toldLength (now (fixed .entry)) (now (code .entry)) at ⌝ }
 {
     fixed[setting::TOTAL] = code.len() - at;
-    let walked = walk_root(desc, fixed, context, &code[at..], rows);
-    match walked {
-        Walked::Refused(refusal) => {
-            *rows = [0i64; SCRATCH];
-            Walked::Refused(refusal)
+    let chosen = choose_root(desc, fixed, context, &code[at..]);
+    match chosen {
+        Chosen::Refused(refusal) => Walked::Refused(refusal),
+        Chosen::Number(number) => {
+            let walked = walk_root(desc, fixed, number, context, &code[at..], rows);
+            match walked {
+                Walked::Refused(refusal) => {
+                    *rows = [0i64; SCRATCH];
+                    Walked::Refused(refusal)
+                }
+                Walked::Done { state, length } => Walked::Done { state, length },
+            }
         }
-        Walked::Done { state, length } => Walked::Done { state, length },
     }
 }

@@ -21,7 +21,7 @@ returns-2 c =
     let found = c .before in
     let start = found .before .before .before .before .before .before .before in
     let result = resultAt (start .args .desc .now) (start .args .fixed .now) (start .args .code .now) (start .args .at) (start .args .context) (start .args .address) in
-    (c .step-of2 .ensures ∙ ap steppedAs (ap (λ (i : Instruction). i .walked) (found .decode-at .ensures .0) ∙ walked-of result), found .decode-at .ensures .1)
+    (c .step-of2 .ensures ∙ ap steppedAs (ap (λ (i : Instruction). i .walked) (found .settle-at .ensures .0) ∙ walked-of result), found .settle-at .ensures .1)
 
 pub step-at-spec : {M : Type 1} → statement M
 step-at-spec =

@@ -1,48 +1,35 @@
-use Rattle.format.specs.Rules.{operandFits}
-use Rattle.format.specs.Description.{description}
-use Rattle.lists.proofs.Below.{all-none, all-more, all-stop}
+use Rattle.rules.specs.Places.{placeFits}
+use Rattle.format.specs.Rules.{operandOf, expressionFits, operandFits}
+use Rattle.format.specs.Description.{Description}
+use Rattle.format.specs.declared.Constructor.{Constructor}
+use Rattle.lists.proofs.Below.{all-and}
 use Rattle.lists.specs.Below.{allBelow}
 use borrow.Author.Needs.{needs}
-use native.Mathlib.Omega.{arith}
 use mathlib.Core.Path.{_≡_, sym, _∙_}
-use mathlib.Core.Bool.{true}
-use Prim.Native.Nat.{_≤_, _-_}
+use mathlib.Core.Bool.{_&&_}
+use Prim.Native.Nat.{ℕ}
 use Rattle.rules.proofs.operands_ok.Statement.{statement}
 use Rattle.rules.proofs.operands_ok.Tie as tie
 
-abbrev Inv-loop : tie.InvT-loop
-Inv-loop desc layout tables c n o₀ o = (o ≤ n) × (allBelow o (operandFits (description desc layout) c) ≡ true)
+-- the rule of the operands asks both passes
+both : (d : Description) (c : Constructor) (n : ℕ)
+    → allBelow n (operandFits d c) ≡ (allBelow n (placeFits d c) && allBelow n (λ o. expressionFits d c (operandOf d c o)))
+unfolding operandFits
+both d c n = all-and n (placeFits d c) (λ o. expressionFits d c (operandOf d c o))
 
-abbrev μ-loop : tie.MeasureT-loop
-μ-loop desc layout tables c n o₀ o = n - o
+returns : tie.Need-returns
+returns c =
+    let earlier = c .before .before in
+    rw (both _ _ _, sym (earlier .places-fit .ensures) ∙ c .before .if1 .taken) (c .expressions-fit .ensures)
 
-loop-holds : tie.Need-loop-holds Inv-loop μ-loop
-loop-holds c = (omega arith, all-none _)
-
-loop-again : tie.Need-loop-again Inv-loop μ-loop
-loop-again c =
-    let earlier = c .before .before .before in
-    (omega arith, all-more _ (earlier .loop .o) (earlier .loop .inv .1) (sym (c .before .used-fits .ensures) ∙ c .if1 .taken))
-
-returns : tie.Need-returns Inv-loop μ-loop
-returns c = sym (all-stop _ _ (c .before .before .before .loop .o) (c .before .before .loop-test .taken) (sym (c .before .used-fits .ensures) ∙ c .if1 .left))
-
-returns-2 : tie.Need-returns-2 Inv-loop μ-loop
-returns-2 c =
-    let s : c .before .loop .o ≡ c .before .before .before .before .args .c .operands .count = omega arith in
-    sym (rw s at (c .before .loop .inv .1))
+returns-2 : tie.Need-returns-2
+returns-2 c = rw (both _ _ _, sym (c .before .places-fit .ensures) ∙ c .if1 .left)
 
 pub operands-ok-spec : {M : Type 1} → statement M
 operands-ok-spec =
     tie.close
     (tie.spec
-    Inv-loop
-    μ-loop
-    (λ c. search needs)
-    loop-holds
     (λ c κs. search needs)
-    (λ c. omega arith)
-    (λ c. omega arith)
-    loop-again
+    (λ c κs. search needs)
     returns
     returns-2)

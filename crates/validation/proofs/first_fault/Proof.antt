@@ -18,14 +18,14 @@ returns-2 c =
 returns-3 : tie.Need-returns-3
 unfolding faultOf
 returns-3 c =
-    let earlier = c .before .before .before .before .before in
+    let earlier = c .before .before .before .before .before .before in
     let earliest = earlier .before .before in
     rw (fields-length, ← earliest .before .before .before .bad-field .ensures, le-ltb _ _ (earliest .before .if1 .left), names-length, ← earliest .bad-name .ensures, le-ltb _ _ (earlier .if2 .left), constructors-length, ← c .before .before .bad-constructor .ensures, lt-ltb _ _ (c .if3 .taken))
 
 returns-4 : tie.Need-returns-4
 unfolding faultOf
 returns-4 c =
-    let earlier = c .before .before .before .before .before .before in
+    let earlier = c .before .before .before .before .before .before .before in
     let earliest = earlier .before .before in
     rw (fields-length, ← earliest .before .before .before .bad-field .ensures, le-ltb _ _ (earliest .before .if1 .left), names-length, ← earliest .bad-name .ensures, le-ltb _ _ (earlier .if2 .left), constructors-length, ← c .before .before .before .bad-constructor .ensures, le-ltb _ _ (c .before .if3 .left)) (c .part-fault .ensures)
 

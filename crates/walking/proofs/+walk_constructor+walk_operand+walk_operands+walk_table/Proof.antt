@@ -17,7 +17,7 @@ use Rattle.walking.specs.Walks.{Within}
 use Rattle.walking.specs.declared.Walked.the-variants.{Done}
 use Rattle.walking.proofs.Readiness.{stayed, moved}
 use Rattle.walking.proofs.Steps.{within}
-use Rattle.walking.proofs.Turns.{LoopState, first-turn, next-turn, refused-turn, last-turn, operand-field, operand-computed, operand-table, constructor-closes, table-full, table-far, table-refused, table-taken}
+use Rattle.walking.proofs.Turns.{LoopState, first-turn, next-turn, refused-turn, last-turn, operand-field, operand-computed, operand-table, constructor-closes, was-taken, table-full, table-far, table-refused, table-taken}
 use borrow.Fn.Kinds.{In}
 use borrow.Fn.PlainCycle.{Measures, is, falls, and}
 use Rattle.walking.proofs.walk_constructor.Reads as walk-constructor
@@ -38,6 +38,7 @@ use Rattle.setting.proofs.operand.Reads as operand-reads
 use Rattle.walking.proofs.close.Reads as close-reads
 use Rattle.walking.proofs.computed_from.Reads as computed-from-reads
 use Rattle.walking.proofs.field_from.Reads as field-from-reads
+use Rattle.walking.proofs.judge.Reads as judge-reads
 use Rattle.walking.proofs.larger.Reads as larger-reads
 use Rattle.walking.proofs.one_more.Reads as one-more-reads
 use Rattle.walking.proofs.smaller.Reads as smaller-reads
@@ -122,7 +123,7 @@ abbrev walk-operands-claims : ℕ → walk-operands-lts.Claims
 walk-operands-claims t = (wide-reads.Asked, wide-reads.Learnt, operand-reads.Asked, operand-reads.Learnt, walk-operand-below t, walk-operand.Post, larger-reads.Asked, larger-reads.Learnt)
 
 abbrev walk-table-claims : ℕ → walk-table-lts.Claims
-walk-table-claims t = (choose-at-reads.Asked, choose-at-reads.Learnt, walk-constructor-below t, walk-constructor.Post)
+walk-table-claims t = (choose-at-reads.Asked, choose-at-reads.Learnt, judge-reads.Asked, judge-reads.Learnt, walk-constructor-below t, walk-constructor.Post)
 
 walk-constructor-constructor-requires : (t : ℕ) → walk-constructor-lts.Need-constructor-requires (walk-constructor-claims t) (walk-constructor-at t) walk-constructor.Post
 walk-constructor-constructor-requires t c κs = (c .before .before .pre .1 .fixed, c .before .before .pre .1 .own .within)
@@ -367,65 +368,47 @@ walk-table-choose-at-requires t c κs =
     let earlier = c .before .before .before .before .before in
     (earlier .pre .1 .fixed, earlier .pre .1 .own)
 
-walk-table-enum-told : (t : ℕ) → walk-table-lts.Need-enum-told (walk-table-claims t) (walk-table-at t) walk-table.Post
-walk-table-enum-told t c = search needs
+walk-table-judge-requires : (t : ℕ) → walk-table-lts.Need-judge-requires (walk-table-claims t) (walk-table-at t) walk-table.Post
+walk-table-judge-requires t c κs = c .before .before .before .before .before .before .pre .1 .close
 
-walk-table-enum-told-2 : (t : ℕ) → walk-table-lts.Need-enum-told-2 (walk-table-claims t) (walk-table-at t) walk-table.Post
-walk-table-enum-told-2 t c = search needs
-
-walk-table-enum-known-choice : (t : ℕ) → walk-table-lts.Need-enum-known-choice (walk-table-claims t) (walk-table-at t) walk-table.Post
-walk-table-enum-known-choice t c = search needs
+walk-table-enum-known-chosen : (t : ℕ) → walk-table-lts.Need-enum-known-chosen (walk-table-claims t) (walk-table-at t) walk-table.Post
+walk-table-enum-known-chosen t c = search needs
 
 walk-table-walk-constructor-requires : (t : ℕ) → walk-table-lts.Need-walk-constructor-requires (walk-table-claims t) (walk-table-at t) walk-table.Post
 walk-table-walk-constructor-requires t c κs =
-    let earlier = c .before .before .before .before in
+    let judged = c .before .before .before .before in
+    let earlier = judged .before in
     let earliest = earlier .before .before in
-    let ready = earliest .before .before .before .before .pre .1 in
-    let e = sym (earlier .choose-at .ensures) ∙ c .before .before .choice .given .1 in (
-      omega (arith, earliest .before .before .before .before .pre .0, earliest .if1 .left),
+    let start = earliest .before .before .before .before in
+    let ready = start .pre .1 in
+    let e = sym (earlier .choose-at .ensures) ∙ was-taken _ _ _ _ (sym (judged .judge .ensures) ∙ c .before .before .chosen .given .1) in (
+      omega (arith, start .pre .0, earliest .if1 .left),
       stayed _ _ _ _ _ ready _ (ready .few)
           (record { within = takes _ _ _ _ (obeyed-in _ _ (ready .fixed)) _ e .within; near = earlier .before .if2 .left; room = earliest .if1 .left }),
     )
 
-walk-table-enum-told-3 : (t : ℕ) → walk-table-lts.Need-enum-told-3 (walk-table-claims t) (walk-table-at t) walk-table.Post
-walk-table-enum-told-3 t c = search needs
-
-walk-table-returns-3 : (t : ℕ) → walk-table-lts.Need-returns-3 (walk-table-claims t) (walk-table-at t) walk-table.Post
-walk-table-returns-3 t c =
-    let earlier = c .before .before in
-    table-refused _ _ _ _ _ _ _ (earlier .before .before .if1 .left) (earlier .before .if2 .left) _ _ (sym (c .enum-told .given .1) ∙ earlier .choose-at .ensures) (λ w. refl)
-
-walk-table-returns-4 : (t : ℕ) → walk-table-lts.Need-returns-4 (walk-table-claims t) (walk-table-at t) walk-table.Post
-walk-table-returns-4 t c =
-    let earlier = c .before .before in
-    table-refused _ _ _ _ _ _ _ (earlier .before .before .if1 .left) (earlier .before .if2 .left) _ _ (sym (c .enum-told2 .given .1) ∙ earlier .choose-at .ensures) (λ w. refl)
+walk-table-enum-known-chosen-2 : (t : ℕ) → walk-table-lts.Need-enum-known-chosen-2 (walk-table-claims t) (walk-table-at t) walk-table.Post
+walk-table-enum-known-chosen-2 t c = search needs
 
 walk-table-same-length : (t : ℕ) → walk-table-lts.Need-same-length (walk-table-claims t) (walk-table-at t) walk-table.Post
 walk-table-same-length t c = search needs
 
-walk-table-returns-5 : (t : ℕ) → walk-table-lts.Need-returns-5 (walk-table-claims t) (walk-table-at t) walk-table.Post
-walk-table-returns-5 t c =
-    let earlier = c .before .before .before .before in
-    let earliest = earlier .before .before in
-    table-taken _ _ _ _ _ _ _ (earliest .before .before .if1 .left) (earliest .before .if2 .left) _ _ (sym (earlier .choice .given .1) ∙ earliest .choose-at .ensures)
-    (c .before .walk-constructor .ensures)
+walk-table-returns-3 : (t : ℕ) → walk-table-lts.Need-returns-3 (walk-table-claims t) (walk-table-at t) walk-table.Post
+walk-table-returns-3 t c =
+    let judged = c .before .before .before .before .before .before in
+    let earlier = judged .before in
+    table-taken _ _ _ _ _ _ _ (earlier .before .before .if1 .left) (earlier .before .if2 .left) _ _ _ (earlier .choose-at .ensures)
+    (sym (judged .judge .ensures) ∙ c .before .before .before .before .chosen .given .1) (c .before .walk-constructor .ensures)
 
-walk-table-returns-6 : (t : ℕ) → walk-table-lts.Need-returns-6 (walk-table-claims t) (walk-table-at t) walk-table.Post
-walk-table-returns-6 t c =
-    let earlier = c .before .before in
-    table-refused _ _ _ _ _ _ _ (earlier .before .before .if1 .left) (earlier .before .if2 .left) _ _ (sym (c .enum-told3 .given .1) ∙ earlier .choose-at .ensures) (λ w. refl)
+walk-table-returns-4 : (t : ℕ) → walk-table-lts.Need-returns-4 (walk-table-claims t) (walk-table-at t) walk-table.Post
+walk-table-returns-4 t c =
+    let judged = c .before .before .before in
+    let earlier = judged .before in
+    table-refused _ _ _ _ _ _ _ (earlier .before .before .if1 .left) (earlier .before .if2 .left) _ _ (earlier .choose-at .ensures)
+    (sym (judged .judge .ensures) ∙ c .before .chosen2 .given .1)
 
-walk-table-cast-t12 : (t : ℕ) → walk-table-lts.Need-cast-t12 (walk-table-claims t) (walk-table-at t) walk-table.Post
-walk-table-cast-t12 t c = omega (arith, c .before .before .before .before .before .pre .1 .close)
-
-walk-table-cast-t15 : (t : ℕ) → walk-table-lts.Need-cast-t15 (walk-table-claims t) (walk-table-at t) walk-table.Post
-walk-table-cast-t15 t c = omega (arith, c .before .before .before .before .before .before .before .before .pre .1 .close)
-
-walk-table-cast-t17 : (t : ℕ) → walk-table-lts.Need-cast-t17 (walk-table-claims t) (walk-table-at t) walk-table.Post
-walk-table-cast-t17 t c = omega (arith, c .before .before .before .before .before .before .before .before .pre .1 .close)
-
-walk-table-cast-t21 : (t : ℕ) → walk-table-lts.Need-cast-t21 (walk-table-claims t) (walk-table-at t) walk-table.Post
-walk-table-cast-t21 t c = omega (arith, c .before .before .before .before .before .before .before .before .pre .1 .close)
+walk-table-cast-t14 : (t : ℕ) → walk-table-lts.Need-cast-t14 (walk-table-claims t) (walk-table-at t) walk-table.Post
+walk-table-cast-t14 t c = omega (arith, c .before .before .before .before .before .pre .1 .close)
 
 pub +walk-constructor+walk-operand+walk-operands+walk-table-spec : {M : Type 1} → statement M
 +walk-constructor+walk-operand+walk-operands+walk-table-spec =
@@ -522,24 +505,20 @@ pub +walk-constructor+walk-operand+walk-operands+walk-table-spec : {M : Type 1} 
     λ t. walk-table-lts.spec (
       choose-at-reads.Asked,
       choose-at-reads.Learnt,
+      judge-reads.Asked,
+      judge-reads.Learnt,
       walk-constructor-below t,
       walk-constructor.Post,
     ) (walk-table-at t)
     walk-table.Post
     (walk-table-returns t)
-    (walk-table-cast-t12 t)
+    (walk-table-cast-t14 t)
     (walk-table-returns-2 t)
     (walk-table-choose-at-requires t)
-    (walk-table-enum-told t)
-    (walk-table-cast-t15 t)
-    (walk-table-enum-told-2 t)
-    (walk-table-cast-t17 t)
-    (walk-table-enum-known-choice t)
+    (walk-table-judge-requires t)
+    (walk-table-enum-known-chosen t)
     (walk-table-walk-constructor-requires t)
-    (walk-table-enum-told-3 t)
-    (walk-table-cast-t21 t)
+    (walk-table-enum-known-chosen-2 t)
+    (walk-table-same-length t)
     (walk-table-returns-3 t)
     (walk-table-returns-4 t)
-    (walk-table-same-length t)
-    (walk-table-returns-5 t)
-    (walk-table-returns-6 t)

@@ -1,51 +1,53 @@
 -- `walking::step_at` meets its contract. Assumes nothing.
-use mathlib.Core.Path.{refl}
+use mathlib.Core.List.{[]}
+use mathlib.Core.Path.{refl, sym, _∙_}
 use native.Mathlib.Omega.{arith}
 use Rattle.walking.proofs.Places.{root-ready, step-here}
+use Rattle.walking.proofs.Turns.{root-unchosen}
 use borrow.Author.Needs.{needs}
 use Rattle.walking.proofs.step_at.Statement.{statement}
 use Rattle.walking.proofs.step_at.Tie as tie
-use Rattle.walking.proofs.step_at.Reads as reads
-use Rattle.walking.proofs.step_at.Lts as lts
-use Rattle.walking.proofs.walk_root.Reads as walk-root-reads
 
-sub-fixed : tie.Need-sub-fixed
-sub-fixed c = search needs
-
-element-write-fixed : tie.Need-element-write-fixed
-element-write-fixed c = search needs
-
-sub-walk-root : tie.Need-sub-walk-root
-sub-walk-root c = search needs
-
-part-walk-root-start : tie.Need-part-walk-root-start
-part-walk-root-start c = search needs
-
-part-walk-root-end : tie.Need-part-walk-root-end
-part-walk-root-end c = search needs
-
-slice-aggregate-walk-root : tie.Need-slice-aggregate-walk-root
-slice-aggregate-walk-root c = search needs
+choose-root-requires : tie.Need-choose-root-requires
+choose-root-requires c κs =
+    let start = c .before .before .before .before in
+    root-ready _ (start .args .fixed .now) (start .args .code .now) (start .args .at) 0 (omega (arith, start .pre .0 .long)) (start .pre .0) .0
 
 walk-root-requires : tie.Need-walk-root-requires
 walk-root-requires c κs =
-    let earlier = c .before .before .before .before .before in
-    root-ready _ (earlier .args .fixed .now) (earlier .args .code .now) (earlier .args .at) 0 (omega (arith, earlier .pre .0 .long)) (earlier .pre .0)
+    let choose = c .before .before .before .before .before .before in
+    let start = choose .before .before .before .before .before in (
+      root-ready _ (start .args .fixed .now) (start .args .code .now) (start .args .at) 0 (omega (arith, start .pre .0 .long)) (start .pre .0),
+      sym (choose .choose-root .ensures) ∙ c .before .before .before .before .chosen2 .given .1,
+    )
 
 returns : tie.Need-returns
 returns c =
-    let earlier = c .before .before .before .before .before .before .before in
-    (step-here _ (earlier .args .fixed .now) (earlier .args .code .now) (earlier .args .at) _ (omega (arith, earlier .pre .0 .long)) _ _ _ (c .before .walk-root .ensures), refl)
+    let choose = c .before .before .before in
+    let start = choose .before .before .before .before .before in
+    (step-here _ (start .args .fixed .now) (start .args .code .now) (start .args .at) _ (omega (arith, start .pre .0 .long)) _ _ _ (root-unchosen _ _ _ [] _ (sym (choose .choose-root .ensures) ∙ c .before .chosen .given .1)), refl)
+
+returns-2 : tie.Need-returns-2
+returns-2 c =
+    let start = c .before .before .before .before .before .before .before .before .before .before .before .before .before in
+    (step-here _ (start .args .fixed .now) (start .args .code .now) (start .args .at) _ (omega (arith, start .pre .0 .long)) _ _ _ (c .before .walk-root .ensures), refl)
 
 pub step-at-spec : {M : Type 1} → statement M
 step-at-spec =
     tie.close
     (tie.spec
-    sub-fixed
-    element-write-fixed
-    sub-walk-root
-    part-walk-root-start
-    part-walk-root-end
-    slice-aggregate-walk-root
+    (λ c. search needs)
+    (λ c. search needs)
+    (λ c. search needs)
+    (λ c. search needs)
+    (λ c. search needs)
+    choose-root-requires
+    (λ c. search needs)
+    (λ c. search needs)
+    (λ c. search needs)
+    (λ c. search needs)
+    (λ c. search needs)
+    (λ c. search needs)
     walk-root-requires
-    returns)
+    returns
+    returns-2)

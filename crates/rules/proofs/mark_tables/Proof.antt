@@ -14,8 +14,8 @@ use mathlib.Core.Path.{_≡_, refl, _∙_}
 use mathlib.Core.List.{List}
 use mathlib.Core.Bool.{Bool}
 use Prim.Native.Nat.{ℕ, _≤_, _-_}
-use Rattle.rules.proofs.tables_of.Statement.{statement}
-use Rattle.rules.proofs.tables_of.Tie as tie
+use Rattle.rules.proofs.mark_tables.Statement.{statement}
+use Rattle.rules.proofs.mark_tables.Tie as tie
 
 -- constructor j has table t
 abbrev hits : List ℕ → Layout → ℕ → ℕ → Bool
@@ -29,7 +29,10 @@ abbrev μ-loop : tie.MeasureT-loop
 μ-loop desc layout marks₀ n i₀ marks i = n - i
 
 loop-holds : tie.Need-loop-holds Inv-loop μ-loop
-loop-holds c = (omega arith, refl, refl, marks-none byteValues (hits (c .before .args .desc .now) (c .before .args .layout)))
+loop-holds c =
+    let empty = c .before .pre .1 in
+    let start = marks-none byteValues (hits (c .before .args .desc .now) (c .before .args .layout)) in
+    (omega arith, rw empty, refl, rw empty start)
 
 loop-again : tie.Need-loop-again Inv-loop μ-loop
 loop-again c =
@@ -49,8 +52,8 @@ returns c =
     let s : c .before .loop .i ≡ c .before .before .before .args .layout .constructors .count = omega arith in
     marks-all _ _ (inv .1) (record { marked = λ k h. inv .3 .marked k h ∙ rw (constructors-length, s) })
 
-pub tables-of-spec : {M : Type 1} → statement M
-tables-of-spec =
+pub mark-tables-spec : {M : Type 1} → statement M
+mark-tables-spec =
     tie.close
     (tie.spec
     Inv-loop
