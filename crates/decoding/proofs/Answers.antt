@@ -13,9 +13,9 @@ use Rattle.decoding_spec.specs.Tree.{Node, rowsOf, numbersOf}
 use Rattle.decoding_spec.specs.Instruction.{instructionOf}
 use Rattle.decoding_spec.specs.declared.State.{State}
 use Rattle.decoding_spec.specs.declared.Refusal.{Refusal}
-use Rattle.walking.specs.Scratch.{scratchNumbers, scratchLength, sizedOf, written}
+use Rattle.walk_steps.specs.Scratch.{scratchNumbers, scratchLength, sizedOf, written}
 use Rattle.walking.specs.Walks.{Instruction, instructionAs}
-use Rattle.walking.specs.declared.Walked.the-variants as walked
+use Rattle.walk_steps.specs.declared.Walked.the-variants as walked
 use Rattle.instructions.proofs.InstructionRows.{was-refused, was-done, plain-rows, sized-length, rows-first}
 use Rattle.decoding.specs.Decoding.{Decodes, answerOf, bufferAfter}
 use Rattle.decoding.specs.Copying.{Copied}

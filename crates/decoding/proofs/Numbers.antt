@@ -9,7 +9,7 @@ use lib.ListN.{length, getD, take, drop, set, length-append, length-take, length
 use lib.Seq.{ext-getD, getD-take, getD-drop, getD-set-same, getD-set-other, drop-drop, drop-set-lt, length-take-le}
 use Rattle.format.specs.Numbers.{rowNumbers}
 use Rattle.decoding_spec.specs.Tree.{Row, numbersOf}
-use Rattle.walking.specs.Scratch.{scratchNumbers, SizedRow, scratchRow, scratchOf}
+use Rattle.walk_steps.specs.Scratch.{scratchNumbers, SizedRow, scratchRow, scratchOf}
 use Rattle.instructions.proofs.InstructionRows.{plain, plain-length}
 use Rattle.decoding.specs.Copying.{Copied}
 

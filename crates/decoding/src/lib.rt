@@ -3,7 +3,7 @@ use acceptance::Acceptance;
 use acceptance::Rejection;
 use decoding_spec::Refusal;
 use format::Layout;
-use walking::Walked;
+use walk_steps::Walked;
 ghost use mathlib.Core.Path.{_≡_};
 ghost use Prim.Native.Nat.{_*_, _≤_};
 ghost use lib.ListN.{length};
@@ -21,7 +21,7 @@ pub enum Decoded {
 }
 
 // Four numbers of each of the scratch rows' five: number k of the rows is number k + k / 4 of the scratch rows.
-fn copy_rows(scratch: &[i64; walking::SCRATCH], used: usize, rows: &mut [i64])
+fn copy_rows(scratch: &[i64; walk_steps::SCRATCH], used: usize, rows: &mut [i64])
     requires { ⌜ (used ≤ mostRows) × (rowNumbers * used ≤ length (now rows)) ⌝ }
     ensures { λ _. ⌜ Copied (now (scratch .entry)) (rowNumbers * used) (now (rows .entry)) (now (rows .exit)) ⌝ }
 {
@@ -45,7 +45,7 @@ fn decode_in(
     ensures { λ r. ⌜ Decodes (description (now (desc .entry)) layout) context address (now (code .entry)) (now (rows .entry)) r (now (rows .exit)) ⌝ }
 {
     let mut fixed = setting::fill(desc, layout, false);
-    let mut scratch = [0i64; walking::SCRATCH];
+    let mut scratch = [0i64; walk_steps::SCRATCH];
     let walked = instructions::decode_at(desc, &mut fixed, context, address, code, 0, &mut scratch);
     match walked {
         Walked::Refused(refusal) => Decoded::Refused(refusal),

@@ -11,7 +11,7 @@ use lib.IntN.{ℤ, pos, natAbs}
 use lib.ListN.{length, getD, set}
 use lib.Seq.{getD-set-same, getD-set-other}
 use Rattle.format.specs.Description.{Description, noField}
-use Rattle.walking.specs.Scratch.{scratchNumbers}
+use Rattle.walk_steps.specs.Scratch.{scratchNumbers}
 use Rattle.scratch_rows.specs.Places.{cell, kindAt, numberAt, startAt, lastAt, sizeAt}
 use Rattle.instructions.specs.Settling.{ownerBelow, countAt, countsFrom, countsAt, computedAt}
 

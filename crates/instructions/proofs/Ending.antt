@@ -20,10 +20,11 @@ use Rattle.decoding_theorems.proofs.InBounds.{walked-bounds, walked-rows}
 use Rattle.decoding_theorems.proofs.Shapes.{walked-shaped, walked-built, without-expressions}
 use Rattle.setting.specs.Fixed.{Fixed, settingIn, layoutIn}
 use Rattle.setting.proofs.Laws.{obeyed-in, fixed-for, setting-for}
-use Rattle.walking.specs.Scratch.{scratchLength, sizedOf, written}
-use Rattle.walking.specs.Walks.{Instruction, leaving, noRows, answerOf, instructionAs, walkedAt, toldLength}
-use Rattle.walking.specs.declared.Walked.{Walked}
-use Rattle.walking.specs.declared.Walked.the-variants.{Done, Refused}
+use Rattle.walk_steps.specs.Scratch.{scratchLength, sizedOf, written}
+use Rattle.walk_steps.specs.Steps.{answerOf}
+use Rattle.walking.specs.Walks.{Instruction, leaving, noRows, instructionAs, walkedAt, toldLength}
+use Rattle.walk_steps.specs.declared.Walked.{Walked}
+use Rattle.walk_steps.specs.declared.Walked.the-variants.{Done, Refused}
 use Rattle.instructions.specs.Settling.{settledFrom, valuedAs, settledWalk}
 use Rattle.instructions.specs.Instructions.{ReadableRows, Settleable, Settles, resultAt}
 use Rattle.instructions.specs.declared.Settled.{Settled}

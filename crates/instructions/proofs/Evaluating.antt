@@ -23,7 +23,7 @@ use Rattle.decoding_spec.specs.Instruction.{Valued, valued, outside, whereInsid
 use Rattle.decoding_theorems.proofs.Records.{expression-ok}
 use Rattle.setting.specs.Fixed.{Fixed, settingIn, expressionStart}
 use Rattle.setting.proofs.Laws.{obeyed-in, expression-in, expression-inside}
-use Rattle.walking.specs.Scratch.{scratchNumbers}
+use Rattle.walk_steps.specs.Scratch.{scratchNumbers}
 use Rattle.scratch_rows.specs.Places.{kindAt, numberAt, startAt, lastAt, sizeAt}
 use Rattle.instructions.specs.Settling.{withValue, ownerBelow, countAt, countsFrom, countsAt, computedAt, settledAt, settledFrom}
 use Rattle.instructions.specs.Instructions.{ReadableRow, ReadableRows, RowOf, Settles}

@@ -18,11 +18,11 @@ use Rattle.decoding_spec.specs.declared.Refusal.{Refusal}
 use Rattle.decoding_theorems.proofs.InBounds.{in-bounds, used-rows}
 use Rattle.setting.specs.Fixed.{fixedOf, settingIn}
 use Rattle.setting.proofs.Laws.{setting-of}
-use Rattle.walking.specs.Scratch.{scratchNumbers, scratchLength, SizedRow, sizedOf, sizedOfAll, scratchOf, putAt, written}
+use Rattle.walk_steps.specs.Scratch.{scratchNumbers, scratchLength, SizedRow, sizedOf, sizedOfAll, scratchOf, putAt, written}
 use Rattle.walking.specs.Walks.{Instruction, instructionAs}
 use Rattle.instructions.specs.Instructions.{resultAt}
-use Rattle.walking.specs.declared.Walked.the-variants.{Done, Refused}
-use Rattle.walking.proofs.Writing.{scratch-length}
+use Rattle.walk_steps.specs.declared.Walked.the-variants.{Done, Refused}
+use Rattle.walk_steps.proofs.Writing.{scratch-length}
 
 -- the rows without their sizes
 abbrev pub plain : List SizedRow → List Row

@@ -13,7 +13,7 @@ use Rattle.format.specs.Description.{Description, noField}
 use Rattle.decoding_spec.specs.Tree.{Node, Nodes, built, numbered, named, computed, none, more}
 use Rattle.decoding_spec.specs.Instruction.{countsAs, countsOf}
 use Rattle.decoding_theorems.specs.Facts.{countOf}
-use Rattle.walking.specs.Scratch.{SizedRow, sizedOf, sizedOfAll, scratchOf}
+use Rattle.walk_steps.specs.Scratch.{SizedRow, sizedOf, sizedOfAll, scratchOf}
 use Rattle.scratch_rows.specs.Places.{kindAt, numberAt, lastAt, sizeAt}
 use Rattle.scratch_rows.proofs.Standing.{rows-some, Stands, stands-first, kind-is, number-is, last-is, part-size, neighbours, inner}
 use Rattle.instructions.specs.Settling.{ownerBelow, countAt, countsFrom}

@@ -14,8 +14,8 @@ use Rattle.expressions.specs.Value as values
 use Rattle.decoding_spec.specs.Tree.{Row, Node, Nodes, built, numbered, named, computed, none, more, rowsOf}
 use Rattle.decoding_spec.specs.Walk.{widthOf}
 use Rattle.decoding_theorems.specs.Facts.{Each, endOf, Shaped, ShapedAll}
-use Rattle.walking.specs.Scratch.{scratchNumbers, scratchLength, SizedRow, sized, sizedOf, sizedOfAll, scratchOf, written}
-use Rattle.walking.proofs.Writing.{written-length}
+use Rattle.walk_steps.specs.Scratch.{scratchNumbers, scratchLength, SizedRow, sized, sizedOf, sizedOfAll, scratchOf, written}
+use Rattle.walk_steps.proofs.Writing.{written-length}
 use Rattle.scratch_rows.specs.Places.{kindAt, numberAt, startAt, lastAt, sizeAt}
 use Rattle.scratch_rows.proofs.Standing.{Stands, stands-behind, kind-is, number-is, start-is, last-is, stands-all}
 use Rattle.instructions.specs.Instructions.{ReadableRow, ReadableRows}

@@ -20,8 +20,8 @@ use Rattle.decoding_spec.specs.Tree.{Node, Nodes, built, numbered, named, compu
 use Rattle.decoding_spec.specs.Instruction.{Valued, valued, outside, whereInside, computedAs, countsOf, expressionValue, withValues, withValuesAll}
 use Rattle.decoding_theorems.specs.Facts.{Built, Shaped, ShapedAll, countOf}
 use Rattle.decoding_theorems.proofs.Records.{usable}
-use Rattle.walking.specs.Scratch.{scratchNumbers, scratchLength, SizedRow, sized, sizedOf, sizedOfAll, scratchRow, scratchOf, written, putAt}
-use Rattle.walking.proofs.Writing.{scratch-length, scratch-append}
+use Rattle.walk_steps.specs.Scratch.{scratchNumbers, scratchLength, SizedRow, sized, sizedOf, sizedOfAll, scratchRow, scratchOf, written, putAt}
+use Rattle.walk_steps.proofs.Writing.{scratch-length, scratch-append}
 use Rattle.scratch_rows.specs.Places.{kindAt, numberAt, startAt, sizeAt}
 use Rattle.scratch_rows.proofs.Standing.{rows-some, scratch-split, Stands, stands-first, stands-behind, kind-is, number-is, start-is, part-size, neighbours, inner, stands-all}
 use Rattle.instructions.specs.Settling.{withValue, ownerBelow, countsAt, computedAt, settledAt, settledFrom}

@@ -13,11 +13,11 @@ use Rattle.decoding_spec.specs.Tree.{Node}
 use Rattle.decoding_spec.specs.Walk.{Result}
 use Rattle.decoding_spec.specs.Instruction.{Valued, valued, outside, instructionOf}
 use Rattle.setting.specs.Fixed.{Fixed, settingIn}
-use Rattle.walking.specs.Scratch.{scratchLength}
+use Rattle.walk_steps.specs.Scratch.{scratchLength}
 use Rattle.scratch_rows.specs.Places.{kindAt, numberAt, startAt, lastAt, sizeAt}
-use Rattle.walking.specs.declared.Walked.{Walked}
-use Rattle.walking.specs.declared.Walked.the-variants as walked
-use Rattle.walking.specs.declared.Walked.the-variants.{Done}
+use Rattle.walk_steps.specs.declared.Walked.{Walked}
+use Rattle.walk_steps.specs.declared.Walked.the-variants as walked
+use Rattle.walk_steps.specs.declared.Walked.the-variants.{Done}
 use Rattle.instructions.specs.declared.Settled.{Settled}
 use Rattle.instructions.specs.declared.Settled.the-variants.{AllInside, OutsideAt}
 use Rattle.instructions.specs.declared.Stepped.{Stepped}

@@ -14,10 +14,10 @@ use Rattle.whole_numbers.specs.declared.Whole.{Whole}
 use Rattle.whole_numbers.specs.declared.Whole.the-variants as whole
 use Rattle.decoding_spec.specs.Instruction.{Valued, valued, outside, whereInside, expressionValue}
 use Rattle.decoding_spec.specs.declared.Refusal.the-variants.{ValueOutside}
-use Rattle.walking.specs.Scratch.{scratchNumbers}
+use Rattle.walk_steps.specs.Scratch.{scratchNumbers}
 use Rattle.walking.specs.Walks.{Instruction, leaving, noRows}
-use Rattle.walking.specs.declared.Walked.{Walked}
-use Rattle.walking.specs.declared.Walked.the-variants.{Done, Refused}
+use Rattle.walk_steps.specs.declared.Walked.{Walked}
+use Rattle.walk_steps.specs.declared.Walked.the-variants.{Done, Refused}
 use Rattle.scratch_rows.specs.Places.{kindAt, numberAt, startAt, lastAt, sizeAt}
 
 -- the last row before r, and below k, whose part reaches past r: the constructor that r is an operand of

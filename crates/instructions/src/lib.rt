@@ -1,16 +1,17 @@
 // The instruction at a place of the code and at an address: the walk, and then the values of its computed operands.
 use decoding_spec::Refusal;
 use setting::FIXED;
-use walking::SCRATCH;
-use walking::Walked;
+use walk_steps::SCRATCH;
+use walk_steps::Walked;
 use whole_numbers::Whole;
 ghost use mathlib.Core.Path.{_≡_};
 ghost use Prim.Native.Nat.{_+_, _-_, _^_, _<_, _≤_};
 ghost use lib.ListN.{length};
 ghost use Rattle.format.specs.Numbers.{longest, mostRows};
 ghost use Rattle.setting.specs.Fixed.{Fixed, settingIn};
-ghost use Rattle.walking.specs.Scratch.{scratchLength};
-ghost use Rattle.walking.specs.Walks.{answerOf, noRows, leaving, instructionAs, toldLength};
+ghost use Rattle.walk_steps.specs.Scratch.{scratchLength};
+ghost use Rattle.walk_steps.specs.Steps.{answerOf};
+ghost use Rattle.walking.specs.Walks.{noRows, leaving, instructionAs, toldLength};
 ghost use Rattle.scratch_rows.specs.Places.{kindAt};
 ghost use Rattle.instructions.specs.Settling.{ownerBelow, countAt, countsAt, computedAt, settledAt, settledFrom, settledWalk};
 ghost use Rattle.instructions.specs.Instructions.{ReadableRows, RowOf, Settleable, Settles, resultAt, steppedAs};

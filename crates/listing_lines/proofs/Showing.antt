@@ -16,7 +16,7 @@ use Rattle.setting.specs.Fixed.{Fixed, settingIn, totalPlace}
 use Rattle.setting.proofs.Laws.{obeyed-in, fixed-for, setting-for}
 use Rattle.walking.specs.Walks.{Instruction, instructionAs, toldLength}
 use Rattle.instructions.specs.Instructions.{resultAt}
-use Rattle.walking.specs.declared.Walked.the-variants as walked
+use Rattle.walk_steps.specs.declared.Walked.the-variants as walked
 use Rattle.instructions.proofs.InstructionRows.{was-refused, was-done}
 use Rattle.text.specs.Text.{textOf}
 use Rattle.text.specs.Places.{textAt, SoundRows}

@@ -4,7 +4,7 @@ use decoding_spec::Refusal;
 use printing::Printed;
 use setting::FIXED;
 use text::Line;
-use walking::Walked;
+use walk_steps::Walked;
 ghost use mathlib.Core.List.{[], _∷_, _++_};
 ghost use mathlib.Core.Logic.{_⊎_};
 ghost use mathlib.Core.Path.{_≡_};
@@ -182,7 +182,7 @@ fn show(
     requires { ⌜ PlaceOf (now desc) (now fixed) (now code) at × (length (now out) ≡ longestText) ⌝ }
     ensures { λ r. ⌜ Shows (now (desc .entry)) (now (fixed .entry)) (now (code .entry)) context address at (now (out .entry)) r (now (out .exit)) (now (fixed .exit)) ⌝ }
 {
-    let mut rows = [0i64; walking::SCRATCH];
+    let mut rows = [0i64; walk_steps::SCRATCH];
     let walked = instructions::decode_at(desc, fixed, context, address, code, at, &mut rows);
     match walked {
         Walked::Refused(refusal) => show_refusal(refusal, code[at], at, code.len(), out),

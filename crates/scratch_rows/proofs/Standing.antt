@@ -7,8 +7,8 @@ use lib.IntN.{ℤ, pos, natAbs}
 use lib.ListN.{length, getD, drop, length-append}
 use lib.Seq.{getD-drop, drop-drop, drop-at}
 use Rattle.decoding_spec.specs.Tree.{Node, Nodes, built, numbered, named, computed, none, more}
-use Rattle.walking.specs.Scratch.{scratchNumbers, scratchLength, SizedRow, sized, sizedOf, sizedOfAll, scratchRow, scratchOf, putAt, written}
-use Rattle.walking.proofs.Writing.{scratch-length, scratch-append}
+use Rattle.walk_steps.specs.Scratch.{scratchNumbers, scratchLength, SizedRow, sized, sizedOf, sizedOfAll, scratchRow, scratchOf, putAt, written}
+use Rattle.walk_steps.proofs.Writing.{scratch-length, scratch-append}
 use Rattle.scratch_rows.specs.Places.{cell, kindAt, numberAt, startAt, lastAt, sizeAt}
 
 -- a part has its own row

@@ -3,7 +3,7 @@ use Prim.Native.Nat.{ℕ, zero, suc, _+_, _*_}
 use mathlib.Core.List.{List}
 use lib.IntN.{ℤ, pos, natAbs}
 use lib.ListN.{getD}
-use Rattle.walking.specs.Scratch.{scratchNumbers}
+use Rattle.walk_steps.specs.Scratch.{scratchNumbers}
 
 -- number j of row r
 abbrev pub cell : List ℤ → ℕ → ℕ → ℤ

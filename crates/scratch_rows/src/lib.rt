@@ -5,7 +5,7 @@ ghost use lib.IntN.{pos, natAbs};
 ghost use lib.ListN.{length, getD};
 
 // The numbers of a row.
-pub const COLUMNS: usize = walking::SCRATCH_NUMBERS;
+pub const COLUMNS: usize = walk_steps::SCRATCH_NUMBERS;
 
 // A number of the rows that is no value: a kind, a record, a start, a size.
 pub fn column(rows: &[i64], i: usize) -> usize

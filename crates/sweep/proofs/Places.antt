@@ -23,7 +23,7 @@ use Rattle.decoding_theorems.proofs.InBounds.{in-bounds}
 use Rattle.decoding_theorems.proofs.Instructions.{relation, stays}
 use Rattle.decoding_theorems.proofs.Shapes.{shaped}
 use Rattle.setting.specs.Fixed.{settingIn}
-use Rattle.walking.specs.Walks.{answerOf}
+use Rattle.walk_steps.specs.Steps.{answerOf}
 use Rattle.instructions.specs.Instructions.{resultAt, steppedAs}
 use Rattle.instructions.specs.declared.Stepped.{Stepped}
 use Rattle.instructions.specs.declared.Stepped.the-variants as stepped

@@ -14,7 +14,7 @@ use Rattle.decoding_spec.specs.Instruction.{instructionOf}
 use Rattle.decoding_spec.specs.declared.State.{State}
 use Rattle.decoding_theorems.proofs.InBounds.{in-bounds, used-rows}
 use Rattle.decoding_theorems.proofs.Shapes.{shaped}
-use Rattle.walking.specs.Scratch.{scratchLength, sizedOf, written}
+use Rattle.walk_steps.specs.Scratch.{scratchLength, sizedOf, written}
 use Rattle.instructions.proofs.InstructionRows.{sized-length}
 use Rattle.scratch_rows.proofs.Standing.{rows-some}
 use Rattle.text.specs.Text.{textOf}

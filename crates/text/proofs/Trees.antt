@@ -13,8 +13,8 @@ use Rattle.format.specs.declared.Piece.{Piece}
 use Rattle.format.proofs.Formation.{RulesHold}
 use Rattle.decoding_spec.specs.Tree.{Node, Nodes, built, numbered, named, computed, none, more}
 use Rattle.decoding_theorems.specs.Facts.{Shaped, ShapedAll, countOf}
-use Rattle.walking.specs.Scratch.{scratchLength, sizedOf, sizedOfAll, scratchOf, written}
-use Rattle.walking.proofs.Writing.{written-length}
+use Rattle.walk_steps.specs.Scratch.{scratchLength, sizedOf, sizedOfAll, scratchOf, written}
+use Rattle.walk_steps.proofs.Writing.{written-length}
 use Rattle.scratch_rows.specs.Places.{kindAt, numberAt, lastAt, sizeAt, skip}
 use Rattle.scratch_rows.proofs.Standing.{Stands, rows-some, stands-first, kind-is, number-is, last-is, part-size, neighbours, inner, stands-all}
 use Rattle.text.specs.Text.{pieceText, piecesText, constructorText, textOf, textsOf}

@@ -12,7 +12,7 @@ use Rattle.format.specs.declared.Constructor.{Constructor}
 use Rattle.format.specs.declared.Piece.{Piece}
 use Rattle.fields.specs.Look.{lookOf}
 use Rattle.printing.specs.Numerals.{numberText}
-use Rattle.walking.specs.Scratch.{scratchLength}
+use Rattle.walk_steps.specs.Scratch.{scratchLength}
 use Rattle.scratch_rows.specs.Places.{kindAt, numberAt, lastAt, skip}
 use Rattle.text.specs.Text.{baseOf, computedText, constructorText, nameText}
 

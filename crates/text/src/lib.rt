@@ -10,7 +10,7 @@ ghost use Rattle.format.specs.Numbers.{mostRows};
 ghost use Rattle.fields.specs.Look.{lookOf};
 ghost use Rattle.printing.specs.Numerals.{numberText};
 ghost use Rattle.setting.specs.Fixed.{Fixed};
-ghost use Rattle.walking.specs.Scratch.{scratchLength};
+ghost use Rattle.walk_steps.specs.Scratch.{scratchLength};
 ghost use Rattle.text.specs.Text.{baseOf};
 ghost use Rattle.scratch_rows.specs.Places.{kindAt, skip};
 ghost use Rattle.text.specs.Places.{SoundRows};

@@ -20,7 +20,7 @@ use Rattle.setting.proofs.Laws.{fixed-of, setting-of, fixed-for, setting-for}
 use Rattle.walking.specs.Walks.{Instruction, instructionAs, toldLength}
 use Rattle.instructions.specs.Instructions.{resultAt}
 use Rattle.instructions.proofs.InstructionRows.{Whole, was-refused, was-done, first-here}
-use Rattle.walking.specs.declared.Walked.the-variants as walked
+use Rattle.walk_steps.specs.declared.Walked.the-variants as walked
 use Rattle.text.specs.Text.{textOf}
 use Rattle.text.specs.Places.{textAt, SoundRows}
 use Rattle.text.specs.Lines.{lineOf, lentAfter}

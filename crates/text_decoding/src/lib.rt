@@ -4,7 +4,7 @@ use acceptance::Rejection;
 use decoding_spec::Refusal;
 use format::Layout;
 use text::Line;
-use walking::Walked;
+use walk_steps::Walked;
 ghost use mathlib.Core.Path.{_≡_};
 ghost use lib.ListN.{length};
 ghost use Rattle.format.specs.Check.{WellFormed};
@@ -32,7 +32,7 @@ fn decode_in(
     ensures { λ _. ⌜ now (out .exit) ≡ instructionBuffer (description (now (desc .entry)) layout) context address (now (code .entry)) (now (out .entry)) ⌝ }
 {
     let mut fixed = setting::fill(desc, layout, false);
-    let mut rows = [0i64; walking::SCRATCH];
+    let mut rows = [0i64; walk_steps::SCRATCH];
     let walked = instructions::decode_at(desc, &mut fixed, context, address, code, 0, &mut rows);
     match walked {
         Walked::Refused(refusal) => Texted::Refused(refusal),

@@ -1,6 +1,5 @@
 -- Laws of the walk.
-pub mod Writing
-pub mod Steps
+pub mod Answers
 pub mod Turns
 pub mod Readiness
 pub mod Places

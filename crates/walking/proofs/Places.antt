@@ -13,11 +13,12 @@ use Rattle.decoding_spec.specs.declared.State.{State}
 use Rattle.decoding_spec.specs.declared.Refusal.{Refusal}
 use Rattle.setting.specs.Fixed.{Fixed, settingIn, totalPlace}
 use Rattle.setting.proofs.Laws.{fixed-for, setting-for}
-use Rattle.walking.specs.Scratch.{scratchLength, sizedOf, written}
-use Rattle.walking.specs.Walks.{WalksTo, RootWalks, answerOf, instructionAs, walkedAt, toldLength}
-use Rattle.walking.specs.declared.Walked.{Walked}
-use Rattle.walking.specs.declared.Walked.the-variants.{Done, Refused}
-use Rattle.walking.proofs.Steps.{code-from, was-refused, was-done}
+use Rattle.walk_steps.specs.Scratch.{scratchLength, sizedOf, written}
+use Rattle.walk_steps.specs.Steps.{answerOf}
+use Rattle.walking.specs.Walks.{WalksTo, RootWalks, instructionAs, walkedAt, toldLength}
+use Rattle.walk_steps.specs.declared.Walked.{Walked}
+use Rattle.walk_steps.specs.declared.Walked.the-variants.{Done, Refused}
+use Rattle.walking.proofs.Answers.{code-from, was-refused, was-done}
 
 module _ (b a s : List ℕ) (at c : ℕ) (long : totalPlace < length a) where
   told : settingIn b (toldLength a s at) ≡ withTotal (length s - at) (settingIn b a)

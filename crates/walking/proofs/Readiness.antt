@@ -7,7 +7,7 @@ use lib.ListN.{length, take, drop}
 use Rattle.format.specs.Numbers.{longest, mostRows}
 use Rattle.decoding_spec.specs.declared.State.{State}
 use Rattle.setting.specs.Fixed.{settingIn}
-use Rattle.walking.specs.Walks.{Ready, beyondPlaces}
+use Rattle.walk_steps.specs.Steps.{Ready, beyondPlaces}
 use Rattle.walking.proofs.Turns.{part-length}
 
 module _ {Own Own′ : Type 0} (b a s : List ℕ) (at : ℕ) (st : State) (ready : Ready Own b a s at st) where

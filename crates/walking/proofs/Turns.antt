@@ -21,13 +21,14 @@ use Rattle.decoding_spec.specs.Walk.{Result, done, refused, andThen, choiceIn, 
 use Rattle.decoding_spec.specs.declared.State.{State}
 use Rattle.decoding_spec.specs.declared.Refusal.{Refusal}
 use Rattle.decoding_spec.specs.declared.Refusal.the-variants.{Short, NoMatch, Ambiguous, TooFar, TooManyRows, RootLengthZero}
-use Rattle.walking.specs.Scratch.{sizedOf, sizedOfAll, written}
-use Rattle.walking.specs.Walks.{WalksTo, Walks, Finished, Within, Closes, chosenAs, rootChosen}
+use Rattle.walk_steps.specs.Scratch.{sizedOf, sizedOfAll, written}
+use Rattle.walk_steps.specs.Steps.{StepsTo, Within, closedAs, closedRows}
+use Rattle.walking.specs.Walks.{WalksTo, Walks, Finished, chosenAs, rootChosen}
 use Rattle.walking.specs.declared.Chosen.the-variants as chosen
-use Rattle.walking.specs.declared.Walked.{Walked}
-use Rattle.walking.specs.declared.Walked.the-variants.{Done, Refused}
-use Rattle.walking.proofs.Steps.{code-from, refuses, finishes, was-refused, was-done, within, WasDone}
-use Rattle.walking.proofs.Writing.{written-behind, written-none}
+use Rattle.walk_steps.specs.declared.Walked.{Walked}
+use Rattle.walk_steps.specs.declared.Walked.the-variants.{Done, Refused}
+use Rattle.walking.proofs.Answers.{code-from, refuses, finishes, was-refused, was-done, within, WasDone, steps-walk, closes}
+use Rattle.walk_steps.proofs.Writing.{written-behind, written-none}
 
 -- a node before its right neighbours
 abbrev joined : Node → Result Nodes → Result Nodes
@@ -176,17 +177,17 @@ part-length s start from at total e l = rw (part-from s start from e) (length-dr
 module _ (g : Setting) (x : Operand) (s : List ℕ) (at start from : ℕ) (st : State) (r : Walked) (old new : List ℤ)
     (e : from ≡ min start (length s)) where
   pub operand-field : x .kind ≡ 0
-      → WalksTo sizedOf (fieldFrom g (getD (g .description .fields) (x .index) noField) (x .index) (take (length s - from) (drop from s)) (at + start) st)
+      → StepsTo sizedOf (fieldFrom g (getD (g .description .fields) (x .index) noField) (x .index) (take (length s - from) (drop from s)) (at + start) st)
       r (at + start) (st .used) old new
       → Walks sizedOf (λ depth. operandFrom g (walkFrom g depth) x s at start st) r (at + start) (st .used) (st .used) old new
   unfolding operandFrom
-  operand-field z h = record { to = λ depth k. rw (eq-eqb (x .kind) 0 z) (rw (part-from s start from e) at h) }
+  operand-field z h = record { to = λ depth k. rw (eq-eqb (x .kind) 0 z) (steps-walk _ _ _ _ _ _ _ (rw (part-from s start from e) at h)) }
 
   pub operand-computed : (x .kind ≡ 0 → ⊥) → x .kind ≡ 2
-      → WalksTo sizedOf (computedFrom g (x .index) (at + start) st) r (at + start) (st .used) old new
+      → StepsTo sizedOf (computedFrom g (x .index) (at + start) st) r (at + start) (st .used) old new
       → Walks sizedOf (λ depth. operandFrom g (walkFrom g depth) x s at start st) r (at + start) (st .used) (st .used) old new
   unfolding operandFrom
-  operand-computed z y h = record { to = λ depth k. rw (ne-eqb (x .kind) 0 z, eq-eqb (x .kind) 2 y) h }
+  operand-computed z y h = record { to = λ depth k. rw (ne-eqb (x .kind) 0 z, eq-eqb (x .kind) 2 y) (steps-walk _ _ _ _ _ _ _ h) }
 
   pub operand-table : (x .kind ≡ 0 → ⊥) → (x .kind ≡ 2 → ⊥)
       → Walks sizedOf (λ depth. walkFrom g depth (x .index) (take (length s - from) (drop from s)) (at + start) st) r (at + start) (st .used) (st .used) old new
@@ -199,11 +200,11 @@ pub constructor-closes : (g : Setting) (n : ℕ) (k k′ : Constructor) (s : Lis
     (old mid new : List ℤ) → k ≡ k′ → minimum ≡ k .minimum → st′ ≡ counted st → g .total ≡ total
     → Walks sizedOfAll (λ depth. operandsFrom g (walkFrom g depth) (k .operands .first) s at (k .operands .count) 0 (replicate (operandsEach + 1) 0) 0 st′)
     walked at (st′ .used) (st′ .used) old mid
-    → Closes total n minimum at (st .used) walked mid r new
+    → r ≡ closedAs total n minimum at walked → new ≡ closedRows n at (st .used) r mid
     → Walks sizedOf (λ depth. constructorFrom g (walkFrom g depth) n k′ s at st) r at (st .used + 1) (st .used) old new
 unfolding constructorFrom
-constructor-closes g n k k′ s at st st′ minimum total walked r old mid new e m q t h f =
-    record { to = λ depth room. rw (← e, ← m) (f g t _ old (subst (λ (u : State). WalksTo sizedOfAll (operandsFrom g (walkFrom g depth) (k .operands .first) s at (k .operands .count) 0 (replicate (operandsEach + 1) 0) 0 u) walked at (u .used) old mid) q (h .to depth (rw q (omega arith))))) }
+constructor-closes g n k k′ s at st st′ minimum total walked r old mid new e m q t h a b =
+    record { to = λ depth room. rw (← e, ← m, b, a) (closes total n minimum at (st .used) walked mid g t _ old (subst (λ (u : State). WalksTo sizedOfAll (operandsFrom g (walkFrom g depth) (k .operands .first) s at (k .operands .count) 0 (replicate (operandsEach + 1) 0) 0 u) walked at (u .used) old mid) q (h .to depth (rw q (omega arith))))) }
 
 -- what a choice comes to
 pub was-taken : (at t n : ℕ) (q : Choice) → chosenAs at t q ≡ chosen.Number n → q ≡ choice.Taken n

@@ -1,3 +1,2 @@
 -- What the walk's functions say of their answers and of the scratch rows.
-pub mod Scratch
 pub mod Walks

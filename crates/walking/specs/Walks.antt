@@ -1,38 +1,28 @@
 -- A function of the walk answers what the definition gives, and has put the rows behind those used before.
 use Prim.Native.Nat.{ℕ, _+_, _-_, _≤_, _<_}
-use mathlib.Core.Bool.{Bool}
-use mathlib.Core.List.{List, [], _∷_}
+use mathlib.Core.List.{List}
 use mathlib.Core.Path.{_≡_}
 use lib.IntN.{ℤ, pos}
 use lib.ListN.{length, getD, replicate, set, drop}
 use Rattle.format.specs.Numbers.{longest, mostRows, operandsEach}
-use Rattle.format.specs.Description.{Description, noField, noConstructor}
+use Rattle.format.specs.Description.{Description, noConstructor}
 use Rattle.format.specs.Tables.{rootOf}
-use Rattle.format.specs.declared.Field.{Field}
 use Rattle.format.specs.declared.Constructor.{Constructor}
 use Rattle.format.specs.declared.Operand.{Operand}
-use Rattle.fields.specs.Value.{valueOf, Readable}
-use Rattle.fields.specs.Look.{lookOf, numberOf}
-use Rattle.fields.specs.declared.Look.the-variants as look
 use Rattle.choosing_spec.specs.declared.Choice.{Choice}
 use Rattle.choosing_spec.specs.declared.Choice.the-variants as choice
-use Rattle.decoding_spec.specs.State.{Setting, counted}
-use Rattle.decoding_spec.specs.Tree.{Node, Nodes}
-use Rattle.decoding_spec.specs.Walk.{Result, done, refused, choiceIn, widthOf, closing, shownAs, fieldFrom, computedFrom, operandFrom, operandsFrom, constructorFrom, walkFrom, walkedFrom, walkedOf}
+use Rattle.decoding_spec.specs.Tree.{Node}
+use Rattle.decoding_spec.specs.Walk.{Result, done, refused, choiceIn, operandFrom, operandsFrom, constructorFrom, walkFrom, walkedFrom, walkedOf}
 use Rattle.decoding_spec.specs.declared.State.{State}
 use Rattle.decoding_spec.specs.declared.Refusal.the-variants.{Short, NoMatch, Ambiguous}
-use Rattle.format.specs.Rules.{bitsOf}
 use Rattle.decoding_theorems.specs.Usable.{Placed, Usable}
-use Rattle.setting.specs.Fixed.{Fixed, settingIn, totalPlace}
-use Rattle.walking.specs.Scratch.{scratchLength, SizedRow, sized, sizedOf, sizedOfAll, written}
+use Rattle.setting.specs.Fixed.{settingIn, totalPlace}
+use Rattle.walk_steps.specs.Scratch.{scratchLength, SizedRow, sizedOf, sizedOfAll, written}
+use Rattle.walk_steps.specs.Steps.{answerOf, beyondPlaces}
+use Rattle.walk_steps.specs.declared.Walked.{Walked}
+use Rattle.walk_steps.specs.declared.Walked.the-variants.{Done, Refused}
 use Rattle.walking.specs.declared.Chosen.{Chosen}
 use Rattle.walking.specs.declared.Chosen.the-variants as chosen
-use Rattle.walking.specs.declared.Walked.{Walked}
-use Rattle.walking.specs.declared.Walked.the-variants.{Done, Refused}
-
-abbrev pub answerOf : {A : Type 0} → Result A → Walked
-answerOf (done a l st) = Done st l
-answerOf (refused r) = Refused r
 
 -- an instruction with its rows: the answer, and what it leaves in the scratch
 pub record Instruction : Type 0 where
@@ -49,19 +39,6 @@ noRows = replicate scratchLength (pos 0)
 abbrev pub instructionAs : Result Node → Instruction
 instructionAs (done n l st) = leaving (Done st l) (written 0 (sizedOf n) noRows)
 instructionAs (refused r) = leaving (Refused r) noRows
-
--- no place that is asked for lies as far as this: an anchor's end, and an offset of a byte
-abbrev pub beyondPlaces : ℕ
-beyondPlaces = 512
-
--- what the functions of the walk ask: the description's numbers, the code from the place on, a place that is not beyond all places,
--- a state within the limit, and what each function asks for itself
-pub record Ready (Own : Type 0) (b a s : List ℕ) (at : ℕ) (st : State) : Type 0 where
-  pub fixed : Fixed b a
-  pub code : length s ≡ settingIn b a .total - at
-  pub close : at < beyondPlaces
-  pub few : st .used ≤ mostRows
-  pub own : Own
 
 -- a done walk: how many rows it used, its bounds, and what stands in the scratch
 pub record Finished {A : Type 0} (rows : A → List SizedRow) (a : A) (l : ℕ) (st : State) (at used : ℕ) (old new : List ℤ) : Type 0 where
@@ -82,39 +59,8 @@ pub record WalksTo {A : Type 0} (rows : A → List SizedRow) (result : Result A)
 pub record Walks {A : Type 0} (rows : A → List SizedRow) (result : ℕ → Result A) (r : Walked) (at room used : ℕ) (old new : List ℤ) : Type 0 where
   pub to : (depth : ℕ) → mostRows < room + depth → WalksTo rows (result depth) r at used old new
 
--- how far a done walk can have come, for the sums of the code
-abbrev pub Within : ℕ → ℕ → Walked → Type 0
-Within at used (Done st l) = (used ≤ st .used) × (st .used ≤ mostRows) × (at + l ≤ longest)
-Within at used (Refused r) = Unit {0}
-
--- whatever the operands came to, the constructor comes to what the definition makes of it
-abbrev pub Closes : (total n minimum at used : ℕ) → Walked → List ℤ → Walked → List ℤ → Type 0
-Closes total n minimum at used walked mid r new =
-    (g : Setting) → g .total ≡ total → (result : Result Nodes) (old : List ℤ) → WalksTo sizedOfAll result walked at (used + 1) old mid
-    → WalksTo sizedOf (closing g n minimum at result) r at used old new
-
--- a computed operand, for an input of so many bytes
-abbrev pub ComputedWalks : (total i at : ℕ) → State → List ℤ → Walked → List ℤ → Type 0
-ComputedWalks total i at st old r new =
-    (g : Setting) → g .total ≡ total → WalksTo sizedOf (computedFrom g i at st) r at (st .used) old new
-
--- a field whose value can be shown
-pub record Showable (g : Setting) (f : Field) (s : List ℕ) (p : ℕ) (st : State) : Type 0 where
-  pub readable : Readable f
-  pub here : f .source ≡ 0 → f .width ≤ length s
-  pub name : lookOf (f .look) ≡ look.Name → f .first + valueOf f s (st .context) < length (g .description .names)
-  pub room : st .used < mostRows
-  pub near : p + widthOf f ≤ longest
-
 -- what each function of the walk says; b and a are the description's bytes and the fixed numbers
 module _ (b a s : List ℕ) (at : ℕ) (st : State) (old : List ℤ) (r : Walked) (new : List ℤ) where
-  abbrev pub ShownWalks : Field → ℕ → Type 0
-  ShownWalks f i =
-      WalksTo sizedOf (shownAs (settingIn b a .description) f i at (valueOf f s (st .context)) (lookOf (f .look)) (counted st)) r at (st .used) old new
-
-  abbrev pub FieldWalks : ℕ → Type 0
-  FieldWalks i = WalksTo sizedOf (fieldFrom (settingIn b a) (getD (settingIn b a .description .fields) i noField) i s at st) r at (st .used) old new
-
   -- an operand that starts so far behind the place
   abbrev pub OperandWalks : Operand → ℕ → Type 0
   OperandWalks x start =
@@ -173,8 +119,3 @@ rootChosen d c s = chosenAs 0 (rootOf d) (choiceIn d (rootOf d) s c)
 -- the root's walk, with its own end
 abbrev pub RootWalks : (b a : List ℕ) → ℕ → List ℕ → List ℤ → Walked → List ℤ → Type 0
 RootWalks b a c s old r new = WalksTo sizedOf (walkedFrom (settingIn b a) c s) r 0 0 old new
-
--- a number's row, put where rows are kept
-abbrev pub PutsNumber : Field → Bool → ℕ → List ℕ → ℕ → ℕ → ℕ → List ℤ → List ℤ → Type 0
-PutsNumber f signed i s c place used old new =
-    new ≡ written used (sized 1 i place (numberOf signed (bitsOf f) (valueOf f s c)) 1 ∷ []) old

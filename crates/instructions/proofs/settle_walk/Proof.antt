@@ -7,7 +7,7 @@ use Rattle.format.specs.Numbers.{longest}
 use lib.IntN.{ℤ}
 use Rattle.decoding_spec.specs.Instruction.{Valued}
 use Rattle.setting.specs.Fixed.{settingIn}
-use Rattle.walking.specs.declared.Walked.the-variants.{Done}
+use Rattle.walk_steps.specs.declared.Walked.the-variants.{Done}
 use Rattle.instructions.specs.Settling.{settledFrom, settledWalk}
 use Rattle.instructions.specs.Instructions.{ReadableRows, Settleable}
 use Rattle.instructions.proofs.Ending.{settled-inside, settled-outside}

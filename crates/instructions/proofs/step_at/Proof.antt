@@ -1,6 +1,7 @@
 -- `instructions::step_at` meets its contract. Assumes nothing.
 use mathlib.Core.Path.{_≡_, ap, _∙_}
-use Rattle.walking.specs.Walks.{Instruction, answerOf}
+use Rattle.walk_steps.specs.Steps.{answerOf}
+use Rattle.walking.specs.Walks.{Instruction}
 use Rattle.instructions.specs.Instructions.{resultAt, steppedAs}
 use Rattle.instructions.proofs.Ending.{walked-of, none-computed}
 use borrow.Author.Needs.{needs}

@@ -13,10 +13,10 @@ use Rattle.decoding_theorems.proofs.Records.{usable}
 use Rattle.decoding_theorems.proofs.Taken.{takes}
 use Rattle.setting.specs.Fixed.{settingIn}
 use Rattle.setting.proofs.Laws.{obeyed-in, few-in, total-in}
-use Rattle.walking.specs.Walks.{Within}
-use Rattle.walking.specs.declared.Walked.the-variants.{Done}
+use Rattle.walk_steps.specs.Steps.{Within}
+use Rattle.walk_steps.specs.declared.Walked.the-variants.{Done}
 use Rattle.walking.proofs.Readiness.{stayed, moved}
-use Rattle.walking.proofs.Steps.{within}
+use Rattle.walking.proofs.Answers.{within}
 use Rattle.walking.proofs.Turns.{LoopState, first-turn, next-turn, refused-turn, last-turn, operand-field, operand-computed, operand-table, constructor-closes, was-taken, table-full, table-far, table-refused, table-taken}
 use borrow.Fn.Kinds.{In}
 use borrow.Fn.PlainCycle.{Measures, is, falls, and}
@@ -35,14 +35,14 @@ use Rattle.walking.proofs.+walk_constructor+walk_operand+walk_operands+
 use Rattle.setting.proofs.choose_at.Reads as choose-at-reads
 use Rattle.setting.proofs.constructor.Reads as constructor-reads
 use Rattle.setting.proofs.operand.Reads as operand-reads
-use Rattle.walking.proofs.close.Reads as close-reads
-use Rattle.walking.proofs.computed_from.Reads as computed-from-reads
-use Rattle.walking.proofs.field_from.Reads as field-from-reads
+use Rattle.walk_steps.proofs.close.Reads as close-reads
+use Rattle.walk_steps.proofs.computed_from.Reads as computed-from-reads
+use Rattle.walk_steps.proofs.field_from.Reads as field-from-reads
 use Rattle.walking.proofs.judge.Reads as judge-reads
-use Rattle.walking.proofs.larger.Reads as larger-reads
-use Rattle.walking.proofs.one_more.Reads as one-more-reads
+use Rattle.walk_steps.proofs.larger.Reads as larger-reads
+use Rattle.walk_steps.proofs.one_more.Reads as one-more-reads
 use Rattle.walking.proofs.smaller.Reads as smaller-reads
-use Rattle.walking.proofs.wide.Reads as wide-reads
+use Rattle.walk_steps.proofs.wide.Reads as wide-reads
 use Rattle.walking.proofs.+walk_constructor+walk_operand+walk_operands+walk_table.{
   statement,
 }
@@ -159,7 +159,7 @@ walk-constructor-returns : (t : ℕ) → walk-constructor-lts.Need-returns (walk
 walk-constructor-returns t c =
     let earlier = c .before .before .before .before .before in
     constructor-closes _ _ _ _ _ _ _ _ _ _ _ _ _ _ _ (earlier .before .before .before .constructor .ensures) (c .before .before .before .wide .ensures .0) (earlier .before .one-more .ensures) (total-in _ _)
-    (earlier .walk-operands .ensures) (c .before .close .ensures)
+    (earlier .walk-operands .ensures) (c .before .close .ensures .0) (c .before .close .ensures .1)
 
 walk-operand-smaller-requires : (t : ℕ) → walk-operand-lts.Need-smaller-requires (walk-operand-claims t) (walk-operand-at t) walk-operand.Post
 walk-operand-smaller-requires t c κs = search needs

@@ -1,22 +1,22 @@
--- `walking::computed_from` meets its contract. Assumes nothing.
-use Rattle.walking.proofs.Steps.{computed-full, computed-far, computed-short, computed-put}
+-- `walk_steps::computed_from` meets its contract. Assumes nothing.
+use Rattle.walk_steps.proofs.Steps.{computed-full, computed-far, computed-short, computed-put}
 use borrow.Author.Needs.{needs}
-use Rattle.walking.proofs.computed_from.Statement.{statement}
-use Rattle.walking.proofs.computed_from.Tie as tie
-use Rattle.walking.proofs.computed_from.Reads as reads
-use Rattle.walking.proofs.computed_from.Lts as lts
-use Rattle.walking.proofs.one_more.Reads as one-more-reads
-use Rattle.walking.proofs.put_row.Reads as put-row-reads
-use Rattle.walking.proofs.wide.Reads as wide-reads
+use Rattle.walk_steps.proofs.computed_from.Statement.{statement}
+use Rattle.walk_steps.proofs.computed_from.Tie as tie
+use Rattle.walk_steps.proofs.computed_from.Reads as reads
+use Rattle.walk_steps.proofs.computed_from.Lts as lts
+use Rattle.walk_steps.proofs.one_more.Reads as one-more-reads
+use Rattle.walk_steps.proofs.put_row.Reads as put-row-reads
+use Rattle.walk_steps.proofs.wide.Reads as wide-reads
 
 returns : tie.Need-returns
-returns c g e = computed-full g _ _ _ _ _ (c .if1 .taken)
+returns c g e = computed-full g _ _ _ _ (c .if1 .taken)
 
 cast-t8 : tie.Need-cast-t8
 cast-t8 c = search needs
 
 returns-2 : tie.Need-returns-2
-returns-2 c g e = computed-far g _ _ _ _ _ (c .before .if1 .left) (c .if2 .taken)
+returns-2 c g e = computed-far g _ _ _ _ (c .before .if1 .left) (c .if2 .taken)
 
 element-copy-out-if3 : tie.Need-element-copy-out-if3
 element-copy-out-if3 c = search needs
@@ -25,7 +25,7 @@ cast-t13 : tie.Need-cast-t13
 cast-t13 c = search needs
 
 returns-3 : tie.Need-returns-3
-returns-3 c g e = computed-short g _ _ _ _ _ (c .before .before .before .if1 .left) (c .before .before .if2 .left) (rw e (c .if3 .taken))
+returns-3 c g e = computed-short g _ _ _ _ (c .before .before .before .if1 .left) (c .before .before .if2 .left) (rw e (c .if3 .taken))
 
 wide-requires : tie.Need-wide-requires
 wide-requires c κs = search needs
@@ -44,7 +44,7 @@ returns-4 c =
     let earlier = c .before .before .before .before .before in
     rw (c .one-more .ensures)
     (λ g e.
-    computed-put g _ _ _ _ _ (earlier .before .before .before .if1 .left) (earlier .before .before .if2 .left) (rw e (earlier .if3 .left))
+    computed-put g _ _ _ _ (earlier .before .before .before .if1 .left) (earlier .before .before .if2 .left) _ (rw e (earlier .if3 .left))
     (rw (c .before .before .before .wide .ensures .0) at (c .before .before .put-row .ensures)))
 
 pub computed-from-spec : {M : Type 1} → statement M

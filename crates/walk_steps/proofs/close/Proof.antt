@@ -1,19 +1,20 @@
--- `walking::close` meets its contract. Assumes nothing.
-use Prim.Native.Nat.{_+_, _≤_}
-use mathlib.Core.Path.{_≡_, sym, _∙_}
+-- `walk_steps::close` meets its contract. Assumes nothing.
+use Prim.Native.Nat.{_+_}
+use mathlib.Core.Path.{refl}
 use native.Mathlib.Omega.{arith}
+use borrow.Author.Tests.{lt-ltb, le-ltb}
+use Rattle.format.specs.Numbers.{longest}
 use mir.Facts.{toZ-pos}
 use mir.Syntax.{w64}
-use Rattle.walking.specs.Walks.{Within}
-use Rattle.walking.specs.declared.Walked.the-variants.{Done}
-use Rattle.walking.proofs.Steps.{closes-refused, closes-far, closes-short, closes-done}
+use Rattle.walk_steps.specs.Steps.{Within}
+use Rattle.walk_steps.specs.declared.Walked.the-variants.{Done}
 use borrow.Author.Needs.{needs}
-use Rattle.walking.proofs.close.Statement.{statement}
-use Rattle.walking.proofs.close.Tie as tie
-use Rattle.walking.proofs.close.Reads as reads
-use Rattle.walking.proofs.close.Lts as lts
-use Rattle.walking.proofs.larger.Reads as larger-reads
-use Rattle.walking.proofs.put_row.Reads as put-row-reads
+use Rattle.walk_steps.proofs.close.Statement.{statement}
+use Rattle.walk_steps.proofs.close.Tie as tie
+use Rattle.walk_steps.proofs.close.Reads as reads
+use Rattle.walk_steps.proofs.close.Lts as lts
+use Rattle.walk_steps.proofs.larger.Reads as larger-reads
+use Rattle.walk_steps.proofs.put_row.Reads as put-row-reads
 
 -- the bounds of the operands' walk, where it was done
 came : (c : tie.After-walked2) → Within (c .before .before .args .at) (c .before .before .args .used + 1) (Done (c .walked2 .given .0 .0) (c .walked2 .given .0 .1 .0))
@@ -31,8 +32,11 @@ larger-requires c κs = search needs
 add-end : tie.Need-add-end
 add-end c = let w = came (c .before .before) in omega (arith, c .larger .ensures)
 
+-- what the operands' answer comes to
 returns : tie.Need-returns
-returns c = closes-far _ _ _ _ _ _ _ _ _ _ _ (c .before .before .before .walked2 .given .1) (c .before .larger .ensures) (c .if1 .taken)
+returns c =
+    let size = c .before .larger .ensures in
+    (rw (c .before .before .before .walked2 .given .1, ← size, lt-ltb longest _ (c .if1 .taken)), refl)
 
 element-copy-out-if2 : tie.Need-element-copy-out-if2
 element-copy-out-if2 c = search needs
@@ -40,7 +44,7 @@ element-copy-out-if2 c = search needs
 returns-2 : tie.Need-returns-2
 returns-2 c =
     let earlier = c .before .before in
-    closes-short _ _ _ _ _ _ _ _ _ _ _ (earlier .before .before .before .walked2 .given .1) (earlier .before .larger .ensures) (earlier .if1 .left) (c .if2 .taken)
+    (rw (earlier .before .before .before .walked2 .given .1, ← earlier .before .larger .ensures, le-ltb longest _ (earlier .if1 .left), lt-ltb _ _ (c .if2 .taken)), refl)
 
 cast-last : tie.Need-cast-last
 cast-last c = search needs
@@ -56,7 +60,7 @@ put-row-requires c κs =
     (start .pre .0 .3, start .pre .0 .0, start .pre .0 .2, omega arith)
 
 returns-3 : tie.Need-returns-3
-returns-3 c = closes-refused _ _ _ _ _ _ _ _ _ (c .before .walked .given .1)
+returns-3 c = (rw (c .before .walked .given .1), refl)
 
 same-length : tie.Need-same-length
 same-length c = search needs
@@ -64,9 +68,10 @@ same-length c = search needs
 returns-4 : tie.Need-returns-4
 returns-4 c =
     let earlier = c .before .before .before .before .before .before in
-    let w = came (earlier .before .before .before) in
-    closes-done _ _ _ _ _ _ _ _ _ _ _ (earlier .before .before .before .walked2 .given .1) (earlier .before .larger .ensures) (earlier .if1 .left) (c .before .before .before .before .if2 .left)
-    (rw (toZ-pos w64 {n = earlier .before .larger .result} (omega arith)) at (c .before .put-row .ensures))
+    let w = came (earlier .before .before .before) in (
+      rw (earlier .before .before .before .walked2 .given .1, ← earlier .before .larger .ensures, le-ltb longest _ (earlier .if1 .left), le-ltb _ _ (c .before .before .before .before .if2 .left)),
+      rw (toZ-pos w64 {n = earlier .before .larger .result} (omega arith)) at (c .before .put-row .ensures),
+    )
 
 cast-t18 : tie.Need-cast-t18
 cast-t18 c = omega (arith, c .before .before .before .before .before .pre .0 .2)

@@ -10,7 +10,7 @@ use lib.IntN.{ℤ}
 use lib.ListN.{length, take, drop, set, length-append, length-take, length-drop, take-append-drop}
 use lib.Seq.{sets-eq, take-at, drop-at, take-append-le, drop-append-le, take-take, drop-drop, length-take-le}
 use Rattle.format.specs.Numbers.{mostRows}
-use Rattle.walking.specs.Scratch.{scratchNumbers, scratchLength, SizedRow, scratchRow, scratchOf, putAt, written}
+use Rattle.walk_steps.specs.Scratch.{scratchNumbers, scratchLength, SizedRow, scratchRow, scratchOf, putAt, written}
 
 -- five stores in a row
 pub put-five : (l : List ℤ) (k : ℕ) (a b c d e : ℤ) → k + 5 ≤ length l

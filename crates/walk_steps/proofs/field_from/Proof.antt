@@ -1,4 +1,4 @@
--- `walking::field_from` meets its contract. Assumes nothing.
+-- `walk_steps::field_from` meets its contract. Assumes nothing.
 use Prim.Native.Nat.{ℕ, _+_}
 use mathlib.Core.Bool.{true}
 use mathlib.Core.Path.{_≡_, sym, _∙_, ap}
@@ -11,16 +11,16 @@ use Rattle.decoding_spec.specs.Walk.{widthOf}
 use Rattle.decoding_theorems.proofs.Records.{field-ok}
 use Rattle.setting.specs.Fixed.{settingIn}
 use Rattle.setting.proofs.Laws.{obeyed-in, total-in}
-use Rattle.walking.proofs.Steps.{near-end, field-full, field-far, field-short, field-shown}
+use Rattle.walk_steps.proofs.Steps.{near-end, field-full, field-far, field-short, field-shown}
 use borrow.Author.Needs.{needs}
-use Rattle.walking.proofs.field_from.Statement.{statement}
-use Rattle.walking.proofs.field_from.Tie as tie
-use Rattle.walking.proofs.field_from.Reads as reads
-use Rattle.walking.proofs.field_from.Lts as lts
+use Rattle.walk_steps.proofs.field_from.Statement.{statement}
+use Rattle.walk_steps.proofs.field_from.Tie as tie
+use Rattle.walk_steps.proofs.field_from.Reads as reads
+use Rattle.walk_steps.proofs.field_from.Lts as lts
 use Rattle.setting.proofs.field.Reads as field-reads
-use Rattle.walking.proofs.show.Reads as show-reads
-use Rattle.walking.proofs.wide.Reads as wide-reads
-use Rattle.walking.proofs.width_of.Reads as width-of-reads
+use Rattle.walk_steps.proofs.show.Reads as show-reads
+use Rattle.walk_steps.proofs.wide.Reads as wide-reads
+use Rattle.walk_steps.proofs.width_of.Reads as width-of-reads
 
 -- the record at the index, and where it ends
 found : (c : tie.After-field)
@@ -39,7 +39,7 @@ good c =
     rw (found c) (field-ok _ (obeyed-in _ _ (earlier .pre .fixed)) (earlier .args .index) (earlier .pre .own))
 
 returns : tie.Need-returns
-returns c = field-full _ _ _ _ _ _ _ _ (c .if1 .taken)
+returns c = field-full _ _ _ _ _ _ _ (c .if1 .taken)
 
 wide-requires : tie.Need-wide-requires
 wide-requires c κs = search needs
@@ -54,7 +54,7 @@ add-end : tie.Need-add-end
 add-end c = search needs
 
 returns-2 : tie.Need-returns-2
-returns-2 c = field-far _ _ _ _ _ _ (c .before .before .before .before .if1 .left) _ _ _ (end-is (c .before)) (c .if2 .taken)
+returns-2 c = field-far _ _ _ _ _ _ (c .before .before .before .before .if1 .left) _ _ (end-is (c .before)) (c .if2 .taken)
 
 element-copy-out-if3 : tie.Need-element-copy-out-if3
 element-copy-out-if3 c = search needs
@@ -62,7 +62,7 @@ element-copy-out-if3 c = search needs
 returns-3 : tie.Need-returns-3
 returns-3 c =
     let earlier = c .before .before in
-    field-short _ _ _ _ _ _ (earlier .before .before .before .before .if1 .left) _ (end-is (earlier .before)) (earlier .if2 .left) _ _ (rw total-in (c .if3 .taken))
+    field-short _ _ _ _ _ _ (earlier .before .before .before .before .if1 .left) _ (end-is (earlier .before)) (earlier .if2 .left) _ (rw total-in (c .if3 .taken))
 
 show-requires : tie.Need-show-requires
 show-requires c κs =

@@ -1,12 +1,12 @@
--- `walking::width_of` meets its contract. Assumes nothing.
+-- `walk_steps::width_of` meets its contract. Assumes nothing.
 use lib.Dec.{lit<}
 use borrow.Author.Tests.{eq-eqb, ne-eqb}
 use borrow.Author.Needs.{needs}
-use Rattle.walking.proofs.width_of.Statement.{statement}
-use Rattle.walking.proofs.width_of.Tie as tie
-use Rattle.walking.proofs.width_of.Reads as reads
-use Rattle.walking.proofs.width_of.Lts as lts
-use Rattle.walking.proofs.wide.Reads as wide-reads
+use Rattle.walk_steps.proofs.width_of.Statement.{statement}
+use Rattle.walk_steps.proofs.width_of.Tie as tie
+use Rattle.walk_steps.proofs.width_of.Reads as reads
+use Rattle.walk_steps.proofs.width_of.Lts as lts
+use Rattle.walk_steps.proofs.wide.Reads as wide-reads
 
 wide-requires : tie.Need-wide-requires
 wide-requires c κs = search needs

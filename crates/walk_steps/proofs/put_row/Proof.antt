@@ -1,15 +1,15 @@
--- `walking::put_row` meets its contract. Assumes nothing.
+-- `walk_steps::put_row` meets its contract. Assumes nothing.
 use Prim.Native.Nat.{_*_}
 use native.Mathlib.Omega.{arith}
 use lib.ListN.{length-set}
 use mir.Facts.{toZ-pos, toZ-ofZ}
 use mir.Syntax.{w64}
-use Rattle.walking.proofs.Writing.{put-five, unwritten, written-row}
+use Rattle.walk_steps.proofs.Writing.{put-five, unwritten, written-row}
 use borrow.Author.Needs.{needs}
-use Rattle.walking.proofs.put_row.Statement.{statement}
-use Rattle.walking.proofs.put_row.Tie as tie
-use Rattle.walking.proofs.put_row.Reads as reads
-use Rattle.walking.proofs.put_row.Lts as lts
+use Rattle.walk_steps.proofs.put_row.Statement.{statement}
+use Rattle.walk_steps.proofs.put_row.Tie as tie
+use Rattle.walk_steps.proofs.put_row.Reads as reads
+use Rattle.walk_steps.proofs.put_row.Lts as lts
 
 mul-at : tie.Need-mul-at
 mul-at c = search needs

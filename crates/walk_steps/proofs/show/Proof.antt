@@ -1,4 +1,4 @@
--- `walking::show` meets its contract. Assumes nothing.
+-- `walk_steps::show` meets its contract. Assumes nothing.
 use Prim.Native.Nat.{_+_}
 use mathlib.Core.Path.{_≡_, sym, _∙_, ap}
 use native.Mathlib.Omega.{arith}
@@ -6,20 +6,20 @@ use mir.Facts.{toZ-pos}
 use mir.Syntax.{w64}
 use Rattle.fields.proofs.Values.{value-small}
 use Rattle.decoding_theorems.proofs.Records.{narrow}
-use Rattle.walking.proofs.Steps.{shows-hole, shows-number, shows-name}
+use Rattle.walk_steps.proofs.Steps.{shows-hole, shows-number, shows-name}
 use borrow.Author.Needs.{needs}
-use Rattle.walking.proofs.show.Statement.{statement}
-use Rattle.walking.proofs.show.Tie as tie
-use Rattle.walking.proofs.show.Reads as reads
-use Rattle.walking.proofs.show.Lts as lts
+use Rattle.walk_steps.proofs.show.Statement.{statement}
+use Rattle.walk_steps.proofs.show.Tie as tie
+use Rattle.walk_steps.proofs.show.Reads as reads
+use Rattle.walk_steps.proofs.show.Lts as lts
 use Rattle.fields.proofs.look_of.Reads as look-of-reads
 use Rattle.fields.proofs.value.Reads as value-reads
 use Rattle.setting.proofs.name.Reads as name-reads
-use Rattle.walking.proofs.one_more.Reads as one-more-reads
-use Rattle.walking.proofs.put_number.Reads as put-number-reads
-use Rattle.walking.proofs.put_row.Reads as put-row-reads
-use Rattle.walking.proofs.wide.Reads as wide-reads
-use Rattle.walking.proofs.width_of.Reads as width-of-reads
+use Rattle.walk_steps.proofs.one_more.Reads as one-more-reads
+use Rattle.walk_steps.proofs.put_number.Reads as put-number-reads
+use Rattle.walk_steps.proofs.put_row.Reads as put-row-reads
+use Rattle.walk_steps.proofs.wide.Reads as wide-reads
+use Rattle.walk_steps.proofs.width_of.Reads as width-of-reads
 
 width-of-requires : tie.Need-width-of-requires
 width-of-requires c κs = search needs
@@ -60,7 +60,7 @@ returns : tie.Need-returns
 returns c =
     let earlier = c .before .before .before .before in
     let start = earlier .before .before .before .before .before .before .before in
-    shows-hole _ _ _ _ _ _ _ _ _ (sym (earlier .before .before .before .look-of .ensures) ∙ earlier .before .enum-told .given .1)
+    shows-hole _ _ _ _ _ _ _ _ (sym (earlier .before .before .before .look-of .ensures) ∙ earlier .before .enum-told .given .1)
     (rw (earlier .value .ensures) at (rw (c .before .before .name .ensures) at (c .if1 .taken)))
 
 wide-requires : tie.Need-wide-requires

@@ -1,0 +1,3 @@
+-- Laws of the walk's steps.
+pub mod Writing
+pub mod Steps
