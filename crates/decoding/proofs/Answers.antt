@@ -1,7 +1,7 @@
 -- From the instruction and its rows to the answer and the lent rows.
 use Prim.Native.Nat.{ℕ, _+_, _*_, _≤_, _<_}
 use mathlib.Core.List.{List, _++_}
-use mathlib.Core.Path.{_≡_, refl, sym, ap, _∙_}
+use mathlib.Core.Path.{_≡_, sym, ap, _∙_}
 use native.Mathlib.Omega.{arith}
 use borrow.Author.Tests.{le-leb, lt-leb}
 use lib.Dec.{leb}
@@ -9,7 +9,7 @@ use lib.IntN.{ℤ, pos}
 use lib.ListN.{length, take, drop, replicate}
 use Rattle.format.specs.Numbers.{mostRows, rowNumbers}
 use Rattle.format.specs.Description.{Description}
-use Rattle.decoding_spec.specs.Tree.{Node, rowsOf, numbersOf}
+use Rattle.decoding_spec.specs.Tree.{rowsOf, numbersOf}
 use Rattle.decoding_spec.specs.Instruction.{instructionOf}
 use Rattle.decoding_spec.specs.declared.State.{State}
 use Rattle.decoding_spec.specs.declared.Refusal.{Refusal}

@@ -1,15 +1,15 @@
 -- The rows' numbers out of the scratch rows.
 use Prim.Native.Nat.{ℕ, zero, suc, _+_, _-_, _*_, _/_, _≤_, _<_}
-use mathlib.Core.List.{List, [], _∷_, _++_, append-nil}
+use mathlib.Core.List.{List, [], _∷_, _++_}
 use mathlib.Core.Path.{_≡_, refl, sym, ap, _∙_}
-use native.Mathlib.Decide.{decLt, ℕ-discrete}
+use native.Mathlib.Decide.{ℕ-discrete}
 use native.Mathlib.Omega.{arith}
 use lib.IntN.{ℤ, pos}
-use lib.ListN.{length, getD, take, drop, set, length-append, length-take, length-drop, length-set, take-append-drop}
-use lib.Seq.{ext-getD, getD-take, getD-drop, getD-set-same, getD-set-other, drop-drop, drop-set-lt, length-take-le}
+use lib.ListN.{length, getD, take, drop, set, length-set, take-append-drop}
+use lib.Seq.{ext-getD, getD-take, getD-set-same, getD-set-other, drop-drop, drop-set-lt, length-take-le}
 use Rattle.format.specs.Numbers.{rowNumbers}
 use Rattle.decoding_spec.specs.Tree.{Row, numbersOf}
-use Rattle.walk_steps.specs.Scratch.{scratchNumbers, SizedRow, scratchRow, scratchOf}
+use Rattle.walk_steps.specs.Scratch.{scratchNumbers, SizedRow, scratchOf}
 use Rattle.instructions.proofs.InstructionRows.{plain, plain-length}
 use Rattle.decoding.specs.Copying.{Copied}
 

@@ -14,7 +14,7 @@ use Rattle.choosing_spec.specs.declared.Choice.the-variants.{Taken}
 use Rattle.choosing_spec.specs.Records.{TakenIn, NoneIn}
 use Rattle.choosing.proofs.Records.{taken-in, none-in}
 use Rattle.decoding_spec.specs.Tree.{Node, Nodes, rowsOf, rowsOfAll}
-use Rattle.decoding_spec.specs.Walk.{done, refused, choiceIn, walkedOf}
+use Rattle.decoding_spec.specs.Walk.{done, refused, choiceIn}
 use Rattle.decoding_spec.specs.Instruction.{instructionOf}
 use Rattle.decoding_spec.specs.declared.State.{State}
 use Rattle.decoding_spec.specs.declared.Refusal.the-variants.{NoMatch}

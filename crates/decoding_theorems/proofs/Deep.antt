@@ -1,5 +1,5 @@
 -- One level more than there may be rows leaves nothing out: walks that may nest deeper come to the same.
-use Prim.Native.Nat.{ℕ, zero, suc, _+_, _≤_, _<_, max}
+use Prim.Native.Nat.{ℕ, zero, suc, _+_, _≤_, max}
 use mathlib.Core.Bool.{Bool, true, false, cond, _||_}
 use mathlib.Core.List.{List}
 use mathlib.Core.Path.{_≡_, refl, ap, _∙_}
@@ -8,7 +8,7 @@ use borrow.Author.Tests.{le-leb}
 use lib.Dec.{ltb, eqb}
 use lib.ListN.{length, getD, drop, set, replicate}
 use Rattle.format.specs.Numbers.{longest, mostRows, operandsEach}
-use Rattle.format.specs.Description.{Description, noField, noName, noConstructor, noOperand}
+use Rattle.format.specs.Description.{noField, noName, noConstructor, noOperand}
 use Rattle.format.specs.Tables.{rootOf}
 use Rattle.format.specs.declared.Field.{Field}
 use Rattle.format.specs.declared.Operand.{Operand}
@@ -23,7 +23,7 @@ use Rattle.decoding_spec.specs.Tree.{Node, Nodes, more}
 use Rattle.decoding_spec.specs.Walk.{Result, done, refused, Walker, andThen, full, widthOf, choiceIn, shownAs, startOf, closed, fieldFrom, computedFrom, operandFrom, operandsFrom, constructorFrom, taking, tableFrom, walkFrom, rejectEmpty, walkedFrom}
 use Rattle.decoding_spec.specs.declared.State.{State}
 use Rattle.decoding_spec.specs.declared.Refusal.{Refusal}
-use Rattle.decoding_spec.specs.declared.Refusal.the-variants.{Short, Hole, TooFar, TooManyRows, RootLengthZero}
+use Rattle.decoding_spec.specs.declared.Refusal.the-variants.{Short, Hole, TooFar, TooManyRows}
 use Rattle.decoding_theorems.proofs.Relation.{Done, test, then}
 
 -- a walk never uses fewer rows than before

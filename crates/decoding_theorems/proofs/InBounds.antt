@@ -1,18 +1,17 @@
 -- A done instruction lies in the input and in the limits, and so does every row; its state has counted its rows.
-use Prim.Native.Nat.{ℕ, _+_, _≤_, max}
+use Prim.Native.Nat.{ℕ, _+_, _≤_}
 use mathlib.Core.List.{List}
 use mathlib.Core.Path.{_≡_, ap}
 use native.Mathlib.Omega.{arith}
 use lib.ListN.{length, length-append}
 use Rattle.format.specs.Numbers.{mostRows}
-use Rattle.format.specs.Rules.{operandOf}
 use Rattle.format.specs.Description.{Description}
 use Rattle.format.specs.Tables.{rootOf}
 use Rattle.decoding_spec.specs.State.{starting}
 use Rattle.format.specs.declared.Constructor.{Constructor}
 use Rattle.format.specs.declared.Operand.{Operand}
 use Rattle.decoding_spec.specs.Tree.{Node, Nodes, rowsOf, rowsOfAll}
-use Rattle.decoding_spec.specs.Walk.{done, startOf, walkedOf}
+use Rattle.decoding_spec.specs.Walk.{done, walkedOf}
 use Rattle.decoding_spec.specs.Instruction.{instructionOf}
 use Rattle.decoding_spec.specs.declared.State.{State}
 use Rattle.decoding_theorems.specs.Facts.{Each, endOf, InBounds}

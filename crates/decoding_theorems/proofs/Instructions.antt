@@ -1,7 +1,7 @@
 -- An instruction is a walk whose computed operands have their values: what was shown of the walk holds of it.
 use Prim.Native.Nat.{ℕ, _+_, _≤_}
-use mathlib.Core.List.{List, [], _∷_, _++_}
-use mathlib.Core.Path.{_≡_, refl, sym, ap, subst, _∙_}
+use mathlib.Core.List.{List, [], _++_}
+use mathlib.Core.Path.{_≡_, refl, sym, ap, subst}
 use native.Mathlib.Omega.{arith}
 use lib.IntN.{ℤ}
 use Rattle.format.specs.Description.{Description}

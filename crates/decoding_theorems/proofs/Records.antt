@@ -1,10 +1,9 @@
 -- What the walk uses of a well-formed description: each of its records obeys its rules.
 use Prim.Native.Nat.{ℕ, _+_, _-_, _≤_, _<_, _^_}
 use mathlib.Core.Bool.{Bool, true, false, _&&_, _||_, not, or-false}
-use mathlib.Core.List.{List}
-use mathlib.Core.Path.{_≡_, refl, sym, ap, _∙_}
+use mathlib.Core.Path.{_≡_, refl}
 use native.Mathlib.Omega.{arith}
-use borrow.Author.Tests.{ltb-true, leb-true, le-leb, eqb-true, eq-eqb, ne-eqb}
+use borrow.Author.Tests.{ltb-true, leb-true, le-leb, eqb-true, ne-eqb}
 use lib.Dec.{ltb, leb, eqb}
 use lib.Pow.{pow-mono}
 use lib.ListN.{length, getD}
@@ -24,7 +23,7 @@ use Rattle.format.specs.declared.Constructor.{Constructor}
 use Rattle.format.specs.declared.Operand.{Operand}
 use Rattle.format.proofs.Formation.{RulesHold}
 use Rattle.format.proofs.Tables.{shaped, table-low}
-use Rattle.decoding_theorems.specs.Usable.{Placed, Usable}
+use Rattle.decoding_theorems.specs.Usable.{Usable}
 
 -- the front and the back of a rule's last part
 operands-ok : (d : Description) (i : ℕ) (k : Constructor) → shapeOk d i k ≡ true → rangeOk operandsEach (length (d .operands)) (k .operands) ≡ true

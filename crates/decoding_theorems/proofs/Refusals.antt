@@ -12,7 +12,6 @@ use Rattle.format.specs.Description.{Description, noField, noName, noConstructo
 use Rattle.format.specs.Rules.{tableAt}
 use Rattle.format.specs.Tables.{rootOf, tableFirst, tableEnd}
 use Rattle.format.specs.declared.Field.{Field}
-use Rattle.format.specs.declared.Constructor.{Constructor}
 use Rattle.format.specs.declared.Operand.{Operand}
 use Rattle.format.proofs.Formation.{RulesHold}
 use Rattle.format.proofs.Tables.{of-table}
@@ -27,8 +26,7 @@ use Rattle.choosing_spec.specs.declared.Choice.the-variants as choice
 use Rattle.choosing_spec.specs.Table.{patternFrom}
 use Rattle.choosing_theorems.proofs.Taken as choosing
 use Rattle.decoding_spec.specs.State.{Setting, starting, counted, settingOf}
-use Rattle.decoding_spec.specs.Tree.{Node, Nodes, more}
-use Rattle.decoding_spec.specs.Walk.{Result, done, refused, Walker, andThen, full, widthOf, choiceIn, shownAs, startOf, closed, fieldFrom, computedFrom, operandFrom, operandsFrom, constructorFrom, taking, tableFrom, walkFrom, rejectEmpty, walkedFrom, walkedOf}
+use Rattle.decoding_spec.specs.Walk.{Result, done, refused, Walker, andThen, full, widthOf, choiceIn, shownAs, startOf, closed, fieldFrom, computedFrom, operandFrom, operandsFrom, constructorFrom, taking, tableFrom, walkFrom, walkedFrom, walkedOf}
 use Rattle.decoding_spec.specs.declared.State.{State}
 use Rattle.decoding_spec.specs.declared.Refusal.{Refusal}
 use Rattle.decoding_spec.specs.declared.Refusal.the-variants.{Short, NoMatch, Hole, TooFar, TooManyRows, RootLengthZero}

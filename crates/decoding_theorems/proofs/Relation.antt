@@ -9,7 +9,7 @@ use lib.Dec.{ltb, eqb}
 use lib.ListN.{length, getD, drop, set, replicate}
 use lib.Seq.{drop-drop}
 use Rattle.format.specs.Numbers.{longest, mostRows, operandsEach}
-use Rattle.format.specs.Description.{Description, noField, noName, noConstructor, noOperand}
+use Rattle.format.specs.Description.{Description, noName}
 use Rattle.format.specs.Rules.{bitsOf, operandOf}
 use Rattle.format.specs.Tables.{rootOf}
 use Rattle.format.specs.declared.Constructor.{Constructor}
@@ -20,9 +20,9 @@ use Rattle.fields.specs.declared.Look.{Look}
 use Rattle.fields.specs.declared.Look.the-variants as look
 use Rattle.choosing_spec.specs.declared.Choice.{Choice}
 use Rattle.choosing_spec.specs.declared.Choice.the-variants as choice
-use Rattle.decoding_spec.specs.State.{Setting, starting, counted, closedBy, settingOf}
-use Rattle.decoding_spec.specs.Tree.{Node, Nodes, built, more, none}
-use Rattle.decoding_spec.specs.Walk.{Result, done, refused, Walker, andThen, full, widthOf, choiceIn, shownAs, startOf, closed, closing, fieldFrom, computedFrom, operandFrom, operandsFrom, constructorFrom, taking, tableFrom, walkFrom, rejectEmpty, walkedFrom, walkedOf}
+use Rattle.decoding_spec.specs.State.{Setting, starting, counted, settingOf}
+use Rattle.decoding_spec.specs.Tree.{Node}
+use Rattle.decoding_spec.specs.Walk.{Result, done, refused, Walker, andThen, full, widthOf, choiceIn, shownAs, startOf, closed, fieldFrom, computedFrom, operandFrom, operandsFrom, constructorFrom, taking, tableFrom, walkFrom, walkedFrom, walkedOf}
 use Rattle.decoding_spec.specs.declared.State.{State}
 use Rattle.decoding_spec.specs.declared.Refusal.{Refusal}
 use Rattle.decoding_spec.specs.declared.Refusal.the-variants.{Short, Hole, TooFar, TooManyRows, RootLengthZero}

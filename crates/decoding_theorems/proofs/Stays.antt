@@ -19,11 +19,10 @@ use Rattle.fields.specs.Look.{lookOf}
 use Rattle.fields.proofs.Values.{value-stays, readable}
 use Rattle.choosing_spec.specs.declared.Choice.{Choice}
 use Rattle.choosing_spec.specs.declared.Choice.the-variants as choice
-use Rattle.choosing_spec.specs.Table.{chooseIn}
 use Rattle.choosing_theorems.proofs.Stays as choosing
 use Rattle.decoding_spec.specs.State.{Setting, starting, counted, settingOf}
-use Rattle.decoding_spec.specs.Tree.{Node, Nodes, more}
-use Rattle.decoding_spec.specs.Walk.{Result, done, refused, Walker, andThen, full, widthOf, numberedFrom, choiceIn, shownAs, startOf, closed, closing, fieldFrom, computedFrom, operandFrom, operandsFrom, constructorFrom, taking, tableFrom, walkFrom, rejectEmpty, walkedFrom, walkedOf}
+use Rattle.decoding_spec.specs.Tree.{Node, Nodes}
+use Rattle.decoding_spec.specs.Walk.{Result, done, refused, Walker, andThen, full, widthOf, numberedFrom, choiceIn, shownAs, startOf, closed, fieldFrom, computedFrom, operandFrom, operandsFrom, constructorFrom, taking, tableFrom, walkFrom, walkedFrom, walkedOf}
 use Rattle.decoding_spec.specs.declared.State.{State}
 use Rattle.decoding_spec.specs.declared.Refusal.{Refusal}
 use Rattle.decoding_spec.specs.declared.Refusal.the-variants.{Short, TooFar, TooManyRows}

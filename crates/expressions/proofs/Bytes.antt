@@ -1,24 +1,21 @@
 -- The bytes of a record are read back as it.
 use Prim.Native.Nat.{ℕ, zero, suc, _+_, _-_, _*_, _/_, _%_, _^_, _<_, _≤_}
-use mathlib.Core.Bool.{Bool, true, false, _&&_}
+use mathlib.Core.Bool.{true}
 use mathlib.Core.List.{List, [], _∷_, _++_, append-assoc}
 use mathlib.Core.Path.{_≡_, refl, sym, ap, _∙_}
 use native.Mathlib.Nat.{add-assoc}
-use native.Mathlib.Decide.{decLt}
 use native.Mathlib.Omega.{arith}
 use borrow.Author.Tests.{ltb-true}
 use lib.Dec.{ltb}
-use lib.IntN.{ℤ, pos, negsuc}
-use lib.ListN.{length, getD, replicate, length-append, length-replicate, List·getD-append, List·getD-eq-default}
+use lib.IntN.{pos, negsuc}
+use lib.ListN.{length, getD, replicate, length-append, length-replicate}
 use lib.Seq.{getD-append-add, getD-append-seam, ext-getD}
 use Rattle.lists.specs.Tab.{tab}
 use Rattle.lists.proofs.Bools.{and-left, and-right}
 use Rattle.lists.proofs.Tab.{tab-at, tab-length}
-use Rattle.format.specs.Bytes.{byteAt}
 use Rattle.format.specs.Numbers.{mostSteps, stepBytes, expressionBytes}
 use Rattle.format.specs.Expression.{Expression, expressionAt, stepAt, noStep, writesExpression}
 use Rattle.format.specs.declared.Step.{Step}
-use Rattle.whole_numbers.specs.Range.{inside}
 use Rattle.whole_numbers.proofs.Kept.{inside-mag}
 use Rattle.expressions.specs.Value.{Given, valueOf}
 use Rattle.expressions.specs.Tree.{Term, constant, operand, address, addressAfter, Operator, plus, minus, times, and, or, xor, Direction, left, right, Tree, leaf, shift, pair, wholeIn, termFits, fits, wordOf, termStep, operatorStep, shiftStep, stepsOf, written, wordBytes, bytesOfStep, bytesOfSteps, bytesOf}

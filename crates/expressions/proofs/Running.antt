@@ -1,6 +1,6 @@
 -- An evaluation on its way: what the cells of the machine's stack hold.
 use Prim.Native.Nat.{ℕ, zero, suc, _+_, _-_, _<_, _≤_}
-use mathlib.Core.Bool.{Bool, true, false, cond}
+use mathlib.Core.Bool.{Bool, true, false}
 use mathlib.Core.List.{List, [], _∷_, _++_}
 use mathlib.Core.Path.{_≡_, refl, sym, ap, _∙_}
 use native.Mathlib.Numerals.{add-one}
@@ -12,10 +12,9 @@ use Rattle.lists.specs.Below.{allBelow}
 use Rattle.lists.proofs.Below.{all-none, all-more, all-stop, all-at}
 use Rattle.lists.proofs.Bools.{and-left}
 use Rattle.format.specs.Numbers.{mostSteps}
-use Rattle.format.specs.Expression.{Expression, stepOf, takes, depthAfter, stepValueOk, stepOk, writesExpression}
+use Rattle.format.specs.Expression.{Expression, stepOf, takes, depthAfter, stepValueOk, stepOk}
 use Rattle.format.specs.declared.Step.{Step}
 use Rattle.whole_numbers.specs.Range.{inside}
-use Rattle.whole_numbers.specs.declared.Whole.{Whole}
 use Rattle.whole_numbers.specs.declared.Whole.the-variants.{Value, Outside}
 use Rattle.expressions.specs.Value.{Given, madeOf, stepOn, stackAfter, topAfter, valueOf}
 use Rattle.expressions.proofs.Records.{Written, passes, enough}

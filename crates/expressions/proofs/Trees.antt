@@ -1,13 +1,13 @@
 -- "docs/ fixes their record, in which every such expression can be written": the record of a tree writes an expression, and has the tree's value.
 use Prim.Native.Nat.{ℕ, zero, suc, _+_, _-_, _^_, _<_, _≤_}
-use mathlib.Core.Bool.{Bool, true, false, cond, _&&_, _||_}
+use mathlib.Core.Bool.{Bool, true, false, _&&_}
 use mathlib.Core.List.{List, [], _∷_, _++_}
 use mathlib.Core.Path.{_≡_, refl, sym, ap, _∙_}
 use native.Mathlib.Nat.{add-assoc, zero-add, add-zero}
 use native.Mathlib.Numerals.{add-one}
 use native.Mathlib.Decide.{decLt}
 use native.Mathlib.Omega.{arith}
-use borrow.Author.Tests.{lt-ltb, le-ltb, ltb-true, le-leb, eq-eqb}
+use borrow.Author.Tests.{lt-ltb, le-ltb, le-leb, eq-eqb}
 use lib.Dec.{leb, ltb, eqb}
 use lib.IntN.{ℤ, pos, negsuc}
 use lib.ListN.{length, getD, drop, replicate, length-append, List·getD-append}
@@ -19,7 +19,6 @@ use Rattle.format.specs.Numbers.{mostSteps}
 use Rattle.format.specs.Expression.{Expression, noStep, stepOf, takes, depthAfter, stepValueOk, stepOk, stepsOk, restEmpty, writesExpression}
 use Rattle.format.specs.declared.Step.{Step}
 use Rattle.whole_numbers.specs.Range.{inside}
-use Rattle.whole_numbers.specs.declared.Whole.the-variants.{Value, Outside}
 use Rattle.whole_numbers.proofs.Kept.{inside-mag}
 use Rattle.expressions.specs.Value.{Given, given, constantOf, termOf, operatorOf, madeOf, stepOn, stackAfter, topAfter, valueOf}
 use Rattle.expressions.specs.Tree.{Term, constant, operand, address, addressAfter, Operator, plus, minus, times, and, or, xor, Direction, left, right, Tree, leaf, shift, pair, termIn, applied, shifted, valueIn, insideIn, wholeIn, termFits, fits, wordOf, termStep, operatorStep, shiftStep, stepsOf, written}

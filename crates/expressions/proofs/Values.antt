@@ -1,21 +1,20 @@
 -- Laws of the value, for callers: what it depends on, and that it fits.
 use Prim.Native.Nat.{ℕ, zero, suc, _+_, _-_, _%_, _^_, _<_, _≤_}
-use mathlib.Core.Bool.{Bool, true, false, not, cond, _||_}
+use mathlib.Core.Bool.{Bool, true, false, not, cond}
 use mathlib.Core.List.{List, [], _∷_, _++_}
 use mathlib.Core.Path.{_≡_, refl, sym, ap, _∙_}
 use native.Mathlib.Omega.{arith}
 use lib.Dec.{eqb}
 use lib.IntN.{ℤ, pos}
-use lib.ListN.{length, getD, drop, replicate}
+use lib.ListN.{length, getD, replicate}
 use Rattle.bits.specs.Bits.{isSet}
 use Rattle.lists.specs.Below.{allBelow}
 use Rattle.lists.proofs.Below.{all-at, all-of, all-same}
 use Rattle.lists.proofs.Bools.{or-yes}
 use Rattle.format.specs.Numbers.{expressionBytes}
-use Rattle.format.specs.Expression.{Expression, expressionAt, stepOf, takes, writesExpression, namesOnly}
+use Rattle.format.specs.Expression.{Expression, expressionAt, stepOf, writesExpression, namesOnly}
 use Rattle.format.specs.declared.Step.{Step}
 use Rattle.whole_numbers.specs.Range.{inside}
-use Rattle.whole_numbers.specs.declared.Whole.{Whole}
 use Rattle.whole_numbers.specs.declared.Whole.the-variants.{Value, Outside}
 use Rattle.expressions.specs.Value.{Given, given, constantOf, termOf, madeOf, stepOn, stackAfter, topAfter, valueOf, Usable}
 use Rattle.expressions.proofs.Names.{named, names-at, word-numbered}

@@ -1,14 +1,13 @@
 -- Description S is judged by computation: it is well formed, and this is what it says.
-use Prim.Native.Nat.{ℕ}
-use mathlib.Core.List.{List, [], _∷_, _++_}
+use mathlib.Core.List.{[], _∷_}
 use mathlib.Core.Path.{_≡_, refl}
-use lib.ListN.{length, take}
+use lib.ListN.{length}
 use Rattle.lists.specs.Below.{allBelow, anyBelow, firstBelow}
 use Rattle.lists.specs.Tab.{tabFrom}
 use Rattle.format.specs.Layout.{sectionAt, layoutOf, namesFrom, constructorsFrom, operandsFrom, piecesFrom, textFrom, expressionsFrom}
 use Rattle.format.specs.Description.{Description, fieldsOf, namesOf, constructorsOf, operandsOf, piecesOf, textOf, expressionsOf}
 use Rattle.format.specs.Rules.{fieldOk, constructorOk, shapeOk, operandFits, pieceFits, shows, hasTable, fieldOperand, expressionFits, operandOk}
-use Rattle.format.specs.Check.{Parsed, formed, parse, checkOf, faultOf, partFault, lastFault, badField, badName, badConstructor, badOperand, badPiece, badLetter, badExpression}
+use Rattle.format.specs.Check.{formed, parse, checkOf, faultOf, partFault, lastFault, badField, badName, badConstructor, badOperand, badPiece, badLetter, badExpression}
 use Rattle.format.specs.Example.{S}
 
 pub sMeaning : Description

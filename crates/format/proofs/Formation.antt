@@ -1,23 +1,20 @@
 -- What a well-formed description is to the layers above: its places lie inside its bytes, and every record obeys its rules.
-use Prim.Native.Nat.{ℕ, suc, _+_, _-_, _≤_, _<_}
-use mathlib.Core.Bool.{Bool, true, false, cond, _&&_, _||_}
+use Prim.Native.Nat.{ℕ, _-_, _≤_}
+use mathlib.Core.Bool.{Bool, true, false, cond}
 use mathlib.Core.List.{List}
-use mathlib.Core.Path.{_≡_, refl, sym, subst, _∙_}
+use mathlib.Core.Path.{_≡_, refl}
 use native.Mathlib.Omega.{arith}
-use borrow.Author.Tests.{ltb-true, ltb-false, leb-true, lt-ltb, ne-eqb}
-use lib.Dec.{ltb, leb, eqb}
-use lib.ListN.{length, getD}
-use Rattle.lists.specs.Below.{allBelow, firstBelow}
-use Rattle.lists.proofs.Below.{first-all, all-at}
-use Rattle.lists.proofs.Bools.{and-left, and-right}
-use Rattle.format.specs.Numbers.{sectionItself, operandsEach, piecesEach}
+use borrow.Author.Tests.{ltb-false}
+use lib.Dec.{ltb}
+use lib.ListN.{length}
+use Rattle.lists.specs.Below.{allBelow}
+use Rattle.lists.proofs.Below.{first-all}
 use Rattle.format.specs.Layout.{layoutOf}
-use Rattle.format.specs.Description.{Description, description, noField, noName, noConstructor, noOperand, noPiece}
+use Rattle.format.specs.Description.{Description, description, noField, noName, noOperand, noPiece}
 use Rattle.format.specs.Expression.{noExpression, writesExpression}
-use Rattle.format.specs.Rules.{fieldOk, nameOk, constructorOk, operandOk, pieceOk, letterOk, shapeOk, tableOk, tableAt, minimumOk, valueOk, rangeOk, operandFits, pieceFits}
+use Rattle.format.specs.Rules.{fieldOk, nameOk, constructorOk, operandOk, pieceOk, letterOk}
 use Rattle.format.specs.Check.{allGood, named, faultOf, partFault, lastFault, judged, checkOf, WellFormed, badField, badName, badConstructor, badOperand, badPiece, badLetter, badExpression}
 use Rattle.format.specs.declared.Layout.{Layout}
-use Rattle.format.specs.declared.Constructor.{Constructor}
 use Rattle.format.specs.declared.LayoutResult.{LayoutResult}
 use Rattle.format.specs.declared.LayoutResult.the-variants as laid
 use Rattle.format.specs.declared.Checked.{Checked}

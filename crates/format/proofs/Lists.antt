@@ -9,7 +9,7 @@ use Rattle.lists.proofs.Tab.{tab-length, tab-at}
 use Rattle.format.specs.Bytes.{byteAt}
 use Rattle.format.specs.Numbers.{fieldBytes, nameBytes, constructorBytes, operandBytes, pieceBytes, letterBytes, expressionBytes}
 use Rattle.format.specs.Record.{fieldAt, nameAt, constructorAt, operandAt, pieceAt}
-use Rattle.format.specs.Expression.{Expression, expressionAt, noExpression}
+use Rattle.format.specs.Expression.{expressionAt, noExpression}
 use Rattle.format.specs.Description.{recordsOf, fieldsOf, namesOf, constructorsOf, operandsOf, piecesOf, textOf, expressionsOf, noConstructor}
 use Rattle.format.specs.declared.Layout.{Layout}
 use Rattle.format.specs.declared.Section.{Section}

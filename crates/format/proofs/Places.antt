@@ -13,9 +13,7 @@ use Rattle.format.specs.Bytes.{u16At}
 use Rattle.format.specs.Numbers.{countBytes}
 use Rattle.format.specs.Layout.{SectionsInBounds, inside, next, endOr, sectionAt, layoutOf, namesFrom, constructorsFrom, operandsFrom, piecesFrom, textFrom, expressionsFrom}
 use Rattle.format.specs.declared.Section.{Section}
-use Rattle.format.specs.declared.Cursor.{Cursor}
 use Rattle.format.specs.declared.Layout.{Layout}
-use Rattle.format.specs.declared.Counted.{Counted}
 use Rattle.format.specs.declared.Counted.the-variants.{Found, Missing}
 use Rattle.format.specs.declared.LayoutResult.{LayoutResult}
 use Rattle.format.specs.declared.LayoutResult.the-variants.{At, Fault}

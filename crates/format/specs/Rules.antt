@@ -8,7 +8,7 @@ use lib.ListN.{length, getD}
 use Rattle.lists.specs.Below.{allBelow, anyBelow}
 use Rattle.format.specs.Numbers.{widest, namesLook, namesBits, firstLetter, lastLetter, tables, longest, operandsEach, piecesEach, farthest}
 use Rattle.format.specs.Description.{Description, noField, noConstructor, noOperand, noPiece}
-use Rattle.format.specs.Expression.{Expression, noExpression, writesExpression, namesOnly}
+use Rattle.format.specs.Expression.{noExpression, writesExpression, namesOnly}
 use Rattle.format.specs.declared.Field.{Field}
 use Rattle.format.specs.declared.Name.{Name}
 use Rattle.format.specs.declared.Pattern.{Pattern}

@@ -1,16 +1,15 @@
 -- The instruction's end: what the walk came to, with its values.
-use Prim.Native.Nat.{ℕ, _+_, _-_, _≤_, _<_}
+use Prim.Native.Nat.{ℕ, _+_, _-_, _≤_}
 use mathlib.Core.List.{List, []}
 use mathlib.Core.Path.{_≡_, refl, sym, ap, subst, _∙_}
 use native.Mathlib.Omega.{arith}
 use lib.IntN.{ℤ, pos}
 use lib.ListN.{length, getD, drop, replicate}
-use Rattle.format.specs.Numbers.{longest, mostRows}
+use Rattle.format.specs.Numbers.{longest}
 use Rattle.format.specs.Description.{Description}
-use Rattle.format.proofs.Formation.{RulesHold}
 use Rattle.format.proofs.Lists.{expressions-length}
 use Rattle.decoding_spec.specs.State.{Setting}
-use Rattle.decoding_spec.specs.Tree.{Node, rowsOf}
+use Rattle.decoding_spec.specs.Tree.{Node}
 use Rattle.decoding_spec.specs.Walk.{Result, done, refused, walkedOf}
 use Rattle.decoding_spec.specs.Instruction.{Valued, valued, outside, whereInside, withValues, ended, completed, instructionOf}
 use Rattle.decoding_spec.specs.declared.State.{State}

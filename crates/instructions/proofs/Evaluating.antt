@@ -1,32 +1,31 @@
 -- A computed operand's expression is evaluated by its record, and the rows are settled one by one.
 use Prim.Native.Nat.{ℕ, zero, suc, _+_, _-_, _*_, _≤_, _<_, _^_}
 use mathlib.Core.Bool.{Bool, true, false, cond}
-use mathlib.Core.List.{List, [], _∷_}
+use mathlib.Core.List.{List, _∷_}
 use mathlib.Core.Path.{_≡_, refl, sym, ap, _∙_}
 use native.Mathlib.Omega.{arith}
-use borrow.Author.Tests.{leb-true, eqb-true, eq-eqb, ne-eqb}
-use lib.Dec.{ltb, leb, eqb}
-use lib.IntN.{ℤ, pos, natAbs}
+use borrow.Author.Tests.{eqb-true, eq-eqb, ne-eqb}
+use lib.Dec.{ltb, eqb}
+use lib.IntN.{ℤ, pos}
 use lib.Signed.{mag}
-use Rattle.lists.proofs.Bools.{and4}
-use lib.ListN.{length, getD, set, length-set}
-use Rattle.format.specs.Numbers.{operandsEach, expressionBytes, mostSteps}
+use lib.ListN.{length, getD, set}
+use Rattle.format.specs.Numbers.{operandsEach}
 use Rattle.format.specs.Description.{Description}
-use Rattle.format.specs.Expression.{Expression, expressionAt, noExpression, stepsOk, restEmpty, writesExpression, namesOnly}
+use Rattle.format.specs.Expression.{expressionAt, noExpression}
 use Rattle.whole_numbers.specs.declared.Whole.{Whole}
 use Rattle.whole_numbers.specs.declared.Whole.the-variants as whole
 use Rattle.whole_numbers.proofs.Kept.{inside-mag}
-use Rattle.expressions.specs.Value.{given, valueOf, numbered, Usable}
+use Rattle.expressions.specs.Value.{given, valueOf, Usable}
 use Rattle.expressions.proofs.Records.{written}
 use Rattle.expressions.proofs.Values.{value-inside}
 use Rattle.decoding_spec.specs.Instruction.{Valued, valued, outside, whereInside}
 use Rattle.decoding_theorems.proofs.Records.{expression-ok}
-use Rattle.setting.specs.Fixed.{Fixed, settingIn, expressionStart}
+use Rattle.setting.specs.Fixed.{settingIn, expressionStart}
 use Rattle.setting.proofs.Laws.{obeyed-in, expression-in, expression-inside}
 use Rattle.walk_steps.specs.Scratch.{scratchNumbers}
-use Rattle.scratch_rows.specs.Places.{kindAt, numberAt, startAt, lastAt, sizeAt}
+use Rattle.scratch_rows.specs.Places.{kindAt, numberAt, startAt, sizeAt}
 use Rattle.instructions.specs.Settling.{withValue, ownerBelow, countAt, countsFrom, countsAt, computedAt, settledAt, settledFrom}
-use Rattle.instructions.specs.Instructions.{ReadableRow, ReadableRows, RowOf, Settles}
+use Rattle.instructions.specs.Instructions.{ReadableRows, RowOf, Settles}
 use Rattle.instructions.specs.declared.Settled.{Settled}
 use Rattle.instructions.specs.declared.Settled.the-variants.{AllInside, OutsideAt}
 use Rattle.instructions.proofs.Alike.{Alike, alike-same, alike-set}

@@ -4,8 +4,8 @@ use mathlib.Core.Bool.{Bool}
 use mathlib.Core.List.{List, [], _∷_, _++_}
 use mathlib.Core.Path.{_≡_, refl, sym, ap, _∙_}
 use native.Mathlib.Omega.{arith}
-use lib.IntN.{ℤ, pos}
-use lib.ListN.{length, take, drop, replicate, length-append}
+use lib.IntN.{pos}
+use lib.ListN.{length, take, replicate}
 use lib.Seq.{take-at}
 use Rattle.format.specs.Numbers.{mostRows}
 use Rattle.format.specs.Description.{Description, description}
@@ -16,7 +16,7 @@ use Rattle.decoding_spec.specs.Instruction.{instructionOf}
 use Rattle.decoding_spec.specs.declared.State.{State}
 use Rattle.decoding_spec.specs.declared.Refusal.{Refusal}
 use Rattle.decoding_theorems.proofs.InBounds.{in-bounds, used-rows}
-use Rattle.setting.specs.Fixed.{fixedOf, settingIn}
+use Rattle.setting.specs.Fixed.{fixedOf}
 use Rattle.setting.proofs.Laws.{setting-of}
 use Rattle.walk_steps.specs.Scratch.{scratchNumbers, scratchLength, SizedRow, sizedOf, sizedOfAll, scratchOf, putAt, written}
 use Rattle.walking.specs.Walks.{Instruction, instructionAs}

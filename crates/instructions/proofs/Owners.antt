@@ -1,20 +1,18 @@
 -- In the rows of a tree the owner of an operand is its constructor, and what is gathered there is what the tree's operands count as.
 use Prim.Native.Nat.{ℕ, zero, suc, _+_, _-_, _≤_, _<_}
-use mathlib.Core.Bool.{cond}
 use mathlib.Core.List.{List, [], _∷_, _++_}
-use mathlib.Core.Path.{_≡_, refl, sym, ap, _∙_}
+use mathlib.Core.Path.{_≡_, refl, ap}
 use native.Mathlib.Decide.{ℕ-discrete, decLt}
 use native.Mathlib.Omega.{arith}
 use borrow.Author.Tests.{lt-ltb, le-ltb}
-use lib.Dec.{eqb}
-use lib.IntN.{ℤ, pos, natAbs}
-use lib.ListN.{length, getD, replicate, length-append}
-use Rattle.format.specs.Description.{Description, noField}
+use lib.IntN.{ℤ, pos}
+use lib.ListN.{length, replicate, length-append}
+use Rattle.format.specs.Description.{Description}
 use Rattle.decoding_spec.specs.Tree.{Node, Nodes, built, numbered, named, computed, none, more}
 use Rattle.decoding_spec.specs.Instruction.{countsAs, countsOf}
 use Rattle.decoding_theorems.specs.Facts.{countOf}
-use Rattle.walk_steps.specs.Scratch.{SizedRow, sizedOf, sizedOfAll, scratchOf}
-use Rattle.scratch_rows.specs.Places.{kindAt, numberAt, lastAt, sizeAt}
+use Rattle.walk_steps.specs.Scratch.{sizedOf, sizedOfAll}
+use Rattle.scratch_rows.specs.Places.{sizeAt}
 use Rattle.scratch_rows.proofs.Standing.{rows-some, Stands, stands-first, kind-is, number-is, last-is, part-size, neighbours, inner}
 use Rattle.instructions.specs.Settling.{ownerBelow, countAt, countsFrom}
 

@@ -1,8 +1,8 @@
 -- The rows that a walk has left can be read.
-use Prim.Native.Nat.{ℕ, zero, suc, _+_, _*_, _≤_, _<_}
+use Prim.Native.Nat.{ℕ, zero, suc, _+_, _≤_, _<_}
 use mathlib.Core.Bool.{Bool, true, false, cond}
 use mathlib.Core.List.{List, [], _∷_, _++_}
-use mathlib.Core.Path.{_≡_, refl, sym, ap, _∙_}
+use mathlib.Core.Path.{_≡_, refl, sym, _∙_}
 use native.Mathlib.Omega.{arith}
 use lib.Dec.{eqb}
 use lib.IntN.{ℤ, pos, natAbs}
@@ -14,11 +14,11 @@ use Rattle.expressions.specs.Value as values
 use Rattle.decoding_spec.specs.Tree.{Row, Node, Nodes, built, numbered, named, computed, none, more, rowsOf}
 use Rattle.decoding_spec.specs.Walk.{widthOf}
 use Rattle.decoding_theorems.specs.Facts.{Each, endOf, Shaped, ShapedAll}
-use Rattle.walk_steps.specs.Scratch.{scratchNumbers, scratchLength, SizedRow, sized, sizedOf, sizedOfAll, scratchOf, written}
+use Rattle.walk_steps.specs.Scratch.{scratchLength, SizedRow, sizedOf, sizedOfAll, written}
 use Rattle.walk_steps.proofs.Writing.{written-length}
-use Rattle.scratch_rows.specs.Places.{kindAt, numberAt, startAt, lastAt, sizeAt}
+use Rattle.scratch_rows.specs.Places.{kindAt, numberAt, startAt, lastAt}
 use Rattle.scratch_rows.proofs.Standing.{Stands, stands-behind, kind-is, number-is, start-is, last-is, stands-all}
-use Rattle.instructions.specs.Instructions.{ReadableRow, ReadableRows}
+use Rattle.instructions.specs.Instructions.{ReadableRows}
 use Rattle.instructions.proofs.InstructionRows.{plain, plain-rows}
 use Rattle.instructions.proofs.Owners.{part-ends}
 

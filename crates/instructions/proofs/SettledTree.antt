@@ -1,17 +1,17 @@
 -- The values put in row by row are those that the tree has.
-use Prim.Native.Nat.{ℕ, zero, suc, _+_, _-_, _*_, _≤_, _<_}
+use Prim.Native.Nat.{ℕ, suc, _+_, _-_, _*_, _≤_, _<_}
 use mathlib.Core.Bool.{Bool, true, false, cond}
-use mathlib.Core.List.{List, [], _∷_, _++_, append-assoc, append-nil}
+use mathlib.Core.List.{List, [], _∷_, _++_, append-assoc}
 use mathlib.Core.Path.{_≡_, refl, sym, ap, _∙_}
 use native.Mathlib.Decide.{decLt}
 use native.Mathlib.Omega.{arith}
-use borrow.Author.Tests.{eqb-true, eqb-false, eq-eqb, ne-eqb}
+use borrow.Author.Tests.{eqb-true, ne-eqb}
 use lib.Dec.{eqb}
 use lib.IntN.{ℤ, pos}
 use lib.ListN.{length, getD, drop, set, replicate, length-append}
 use lib.Seq.{drop-at, set-append-seam}
 use Rattle.format.specs.Numbers.{operandsEach}
-use Rattle.format.specs.Description.{Description, noConstructor}
+use Rattle.format.specs.Description.{Description}
 use Rattle.format.specs.Expression.{noExpression}
 use Rattle.format.proofs.Formation.{RulesHold}
 use Rattle.whole_numbers.specs.declared.Whole.{Whole}
@@ -20,10 +20,10 @@ use Rattle.decoding_spec.specs.Tree.{Node, Nodes, built, numbered, named, compu
 use Rattle.decoding_spec.specs.Instruction.{Valued, valued, outside, whereInside, computedAs, countsOf, expressionValue, withValues, withValuesAll}
 use Rattle.decoding_theorems.specs.Facts.{Built, Shaped, ShapedAll, countOf}
 use Rattle.decoding_theorems.proofs.Records.{usable}
-use Rattle.walk_steps.specs.Scratch.{scratchNumbers, scratchLength, SizedRow, sized, sizedOf, sizedOfAll, scratchRow, scratchOf, written, putAt}
-use Rattle.walk_steps.proofs.Writing.{scratch-length, scratch-append}
-use Rattle.scratch_rows.specs.Places.{kindAt, numberAt, startAt, sizeAt}
-use Rattle.scratch_rows.proofs.Standing.{rows-some, scratch-split, Stands, stands-first, stands-behind, kind-is, number-is, start-is, part-size, neighbours, inner, stands-all}
+use Rattle.walk_steps.specs.Scratch.{scratchNumbers, scratchLength, SizedRow, sized, sizedOf, sizedOfAll, scratchOf, written, putAt}
+use Rattle.walk_steps.proofs.Writing.{scratch-length}
+use Rattle.scratch_rows.specs.Places.{kindAt, sizeAt}
+use Rattle.scratch_rows.proofs.Standing.{rows-some, scratch-split, Stands, stands-first, kind-is, number-is, start-is, part-size, neighbours, inner, stands-all}
 use Rattle.instructions.specs.Settling.{withValue, ownerBelow, countsAt, computedAt, settledAt, settledFrom}
 use Rattle.expressions.proofs.Values.{value-padded}
 use Rattle.instructions.proofs.Alike.{Alike, alike-same, alike-set, computed-alike}

@@ -7,7 +7,7 @@ use lib.IntN.{ℤ, pos, natAbs}
 use lib.ListN.{length, getD, drop}
 use Rattle.format.specs.Numbers.{longest, mostRows, operandsEach}
 use Rattle.format.specs.Description.{Description}
-use Rattle.format.specs.Expression.{noExpression, writesExpression, namesOnly}
+use Rattle.format.specs.Expression.{noExpression, namesOnly}
 use Rattle.expressions.specs.Value.{numbered}
 use Rattle.decoding_spec.specs.Tree.{Node}
 use Rattle.decoding_spec.specs.Walk.{Result}

@@ -1,15 +1,13 @@
 -- The values of computed operands, by the scratch rows: what the code computes. Nothing reads a computed operand's own value, so that
 -- the values are put in row by row.
-use Prim.Native.Nat.{ℕ, zero, suc, _+_, _-_, _*_, _<_}
-use mathlib.Core.Bool.{Bool, cond}
+use Prim.Native.Nat.{ℕ, zero, suc, _+_, _-_, _*_}
+use mathlib.Core.Bool.{cond}
 use mathlib.Core.List.{List, [], _∷_}
-use mathlib.Core.Path.{_≡_}
 use lib.Dec.{ltb, eqb}
 use lib.IntN.{ℤ, pos, natAbs}
-use lib.ListN.{length, getD, set}
-use Rattle.format.specs.Numbers.{operandsEach, longest}
+use lib.ListN.{getD, set}
+use Rattle.format.specs.Numbers.{operandsEach}
 use Rattle.format.specs.Description.{Description, noField}
-use Rattle.format.specs.Expression.{noExpression, namesOnly}
 use Rattle.whole_numbers.specs.declared.Whole.{Whole}
 use Rattle.whole_numbers.specs.declared.Whole.the-variants as whole
 use Rattle.decoding_spec.specs.Instruction.{Valued, valued, outside, whereInside, expressionValue}

@@ -1,8 +1,8 @@
 -- A line in a buffer of its own.
 use Prim.Native.Nat.{ℕ, _+_}
 use mathlib.Core.List.{List}
-use mathlib.Core.Path.{_≡_, refl, sym, ap, _∙_}
-use lib.ListN.{length, replicate}
+use mathlib.Core.Path.{_≡_}
+use lib.ListN.{replicate}
 use Rattle.format.specs.Description.{Description}
 use Rattle.acceptance.specs.Acceptance.{firstValue, secondValue}
 use Rattle.acceptance.specs.declared.Rejection.{Rejection}

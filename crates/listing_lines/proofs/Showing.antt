@@ -1,10 +1,10 @@
 -- What is shown at a place, from the instruction there.
 use Prim.Native.Nat.{ℕ, suc, _+_, _-_, _≤_, _<_}
 use mathlib.Core.List.{List}
-use mathlib.Core.Path.{_≡_, refl, sym, ap, subst, _∙_}
+use mathlib.Core.Path.{_≡_, sym, ap, subst, _∙_}
 use native.Mathlib.Omega.{arith}
-use lib.IntN.{ℤ, pos}
-use lib.ListN.{length, getD, drop, replicate, length-drop}
+use lib.IntN.{ℤ}
+use lib.ListN.{length, getD, drop, length-drop}
 use Rattle.format.specs.Numbers.{mostRows}
 use Rattle.format.specs.Description.{Description}
 use Rattle.decoding_spec.specs.State.{Setting}
@@ -12,7 +12,7 @@ use Rattle.decoding_spec.specs.Instruction.{instructionOf}
 use Rattle.decoding_spec.specs.declared.State.{State}
 use Rattle.decoding_spec.specs.declared.Refusal.{Refusal}
 use Rattle.decoding_theorems.proofs.InBounds.{in-bounds}
-use Rattle.setting.specs.Fixed.{Fixed, settingIn, totalPlace}
+use Rattle.setting.specs.Fixed.{Fixed}
 use Rattle.setting.proofs.Laws.{obeyed-in, fixed-for, setting-for}
 use Rattle.walking.specs.Walks.{Instruction, instructionAs, toldLength}
 use Rattle.instructions.specs.Instructions.{resultAt}

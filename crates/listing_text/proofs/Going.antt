@@ -1,7 +1,7 @@
 -- The lines written so far, and those that are left, are the window.
 use Prim.Native.Nat.{ℕ, zero, suc, _+_, _-_, _≤_, _<_}
 use mathlib.Core.Bool.{Bool, true, false, cond}
-use mathlib.Core.List.{List, [], _∷_, _++_, append-assoc, append-nil}
+use mathlib.Core.List.{List, [], _++_, append-assoc, append-nil}
 use mathlib.Core.Path.{_≡_, refl, sym, ap, _∙_}
 use native.Mathlib.Omega.{arith}
 use borrow.Author.Tests.{le-leb, lt-leb}
@@ -12,7 +12,7 @@ use Rattle.printing.specs.Writing.{over}
 use Rattle.listing_lines.specs.Line.{lineAt, nextAt}
 use Rattle.listing_text.specs.Listing.{Window, noLines, before, windowFrom, windowOf, partOf}
 use Rattle.listing_text.specs.Windows.{Lists}
-use Rattle.listing_text.proofs.Moving.{Moves, moves-on}
+use Rattle.listing_text.proofs.Moving.{moves-on}
 
 -- so many lines, with this text, before a window
 abbrev after : List ℕ → ℕ → Window → Window

@@ -4,10 +4,9 @@ use mathlib.Core.Bool.{Bool, true, false, cond}
 use mathlib.Core.List.{List, [], _∷_, _++_, append-assoc, append-nil}
 use mathlib.Core.Path.{_≡_, refl, sym, ap, _∙_}
 use native.Mathlib.Omega.{arith}
-use borrow.Author.Tests.{le-leb, lt-leb, leb-true, leb-false, eqb-true, eqb-false, eq-eqb, ne-eqb}
+use borrow.Author.Tests.{leb-true, leb-false, eqb-true, eqb-false, ne-eqb}
 use lib.Dec.{leb, eqb}
 use lib.ListN.{length, length-append}
-use Rattle.printing.specs.Numerals.{digitsOf}
 use Rattle.printing.proofs.Numerals.{digits-length}
 use Rattle.format.specs.Description.{Description, description}
 use Rattle.acceptance.specs.Acceptance.{acceptanceOf, accepting, firstValue, secondValue}
@@ -17,7 +16,7 @@ use Rattle.acceptance.specs.declared.Rejection.{Rejection}
 use Rattle.listing_lines.specs.Line.{lineAt, nextAt, malformedText, faultText, lineBytes}
 use Rattle.listing_text.specs.Listing.{Window, noLines, before, linesOf, windowFrom, windowOf, faultFrom, faultWindow, listingFrom, codePart, descriptionPart, inputWindow}
 use Rattle.listing_text.specs.Runs.{SplitsAt, joined, placeAfter, endOf}
-use Rattle.listing_text.proofs.Moving.{Moves, moves-on, line-length, no-line, line-here}
+use Rattle.listing_text.proofs.Moving.{moves-on, line-length, no-line, line-here}
 
 module _ (d : Description) (c address : ℕ) (s : List ℕ) where
   abbrev Good : (room at : ℕ) → Window → Type 0

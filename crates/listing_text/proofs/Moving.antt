@@ -1,8 +1,8 @@
 -- A line moves on and is not too long; the lines from each place are the line there, then those from the next place on.
 use Prim.Native.Nat.{ℕ, zero, suc, _+_, _-_, _≤_, _<_}
 use mathlib.Core.Bool.{Bool, true, false, cond}
-use mathlib.Core.List.{List, [], _∷_, _++_}
-use mathlib.Core.Path.{_≡_, refl, sym, ap, _∙_}
+use mathlib.Core.List.{List, [], _++_}
+use mathlib.Core.Path.{_≡_, refl, ap, _∙_}
 use native.Mathlib.Omega.{arith}
 use borrow.Author.Tests.{le-leb, lt-leb, leb-true, leb-false}
 use lib.Dec.{leb}
@@ -15,7 +15,7 @@ use Rattle.decoding_spec.specs.Walk.{Result, done, refused}
 use Rattle.decoding_spec.specs.Instruction.{instructionOf}
 use Rattle.decoding_theorems.proofs.InBounds.{in-bounds}
 use Rattle.listing_lines.proofs.Appending.{address-long}
-use Rattle.listing_lines.specs.Line.{hexDigits, byteText, shortWord, longWord, fitting, refusedText, refusedNext, shownBy, shownAt, nextBy, nextAt, lineText, lineAt, lineBytes}
+use Rattle.listing_lines.specs.Line.{hexDigits, byteText, shortWord, longWord, fitting, shownBy, shownAt, nextBy, nextAt, lineText, lineAt, lineBytes}
 use Rattle.text.specs.Text.{textOf}
 use Rattle.listing_text.specs.Listing.{linesFrom, linesOf}
 

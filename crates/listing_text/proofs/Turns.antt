@@ -4,7 +4,7 @@ use mathlib.Core.Bool.{true, false}
 use mathlib.Core.List.{List, _++_}
 use mathlib.Core.Path.{_≡_, refl, sym, ap, subst, _∙_}
 use native.Mathlib.Omega.{arith}
-use lib.ListN.{length, length-take, take, drop, replicate, length-append, length-drop, take-append-drop}
+use lib.ListN.{length, length-take, take, drop, length-append, length-drop, take-append-drop}
 use lib.Seq.{take-at, length-take-le}
 use Rattle.format.specs.Description.{Description}
 use Rattle.printing.specs.Writing.{Puts, over}
@@ -14,13 +14,13 @@ use Rattle.printing.proofs.Writing.{puts-wrote, puts-full, part-over}
 use Rattle.setting.specs.Fixed.{Fixed}
 use Rattle.text.specs.Prints.{described}
 use Rattle.walking.specs.Walks.{toldLength}
-use Rattle.listing_lines.specs.Line.{lineText, lineAt, nextAt, listingLine, lineBytes}
+use Rattle.listing_lines.specs.Line.{lineText, lineAt, nextAt, listingLine}
 use Rattle.listing_lines.specs.Put.{PlaceOf}
 use Rattle.listing_lines.specs.declared.ListingLine.{ListingLine}
 use Rattle.listing_lines.proofs.Showing.{same-description, fixed-there}
 use Rattle.listing_text.specs.Listing.{windowOf}
 use Rattle.listing_text.specs.Windows.{Lists}
-use Rattle.listing_text.proofs.Moving.{Moves, moves-on}
+use Rattle.listing_text.proofs.Moving.{moves-on}
 use Rattle.listing_text.proofs.Going.{Going, going-first, bytes-fit, going-on, going-full, going-end}
 
 line-some : (d : Description) (c address : ℕ) (s : List ℕ) (at : ℕ) → 1 ≤ length (lineAt d c address s at)

@@ -1,6 +1,6 @@
 -- The word of field operands, bit by bit.
-use Prim.Native.Nat.{ℕ, suc, _+_, _-_, _*_, _^_, _≤_, _<_}
-use mathlib.Core.Bool.{Bool, true, false, cond, not, _&&_, _||_}
+use Prim.Native.Nat.{ℕ, _+_, _-_, _*_, _^_, _≤_, _<_}
+use mathlib.Core.Bool.{Bool, true, false, cond}
 use Rattle.lists.proofs.Bools.{or-yes, and-no}
 use mathlib.Core.Path.{_≡_, refl, sym, ap, fun-ext, _∙_}
 use native.Mathlib.Decide.{decLt}
@@ -9,12 +9,12 @@ use borrow.Author.Tests.{le-leb, lt-leb}
 use lib.Dec.{leb, eqb}
 use lib.Pow.{pow-add, pow-mono}
 use lib.ListN.{length, getD, List·getD-eq-default}
-use Rattle.bits.specs.Bits.{bit, isSet}
+use Rattle.bits.specs.Bits.{isSet}
 use Rattle.bits.proofs.Digits.{low-bit, high-bit}
 use Rattle.expressions.proofs.Names.{beyond}
 use Rattle.format.specs.Numbers.{operandsEach}
 use Rattle.format.specs.Description.{Description}
-use Rattle.format.specs.Expression.{Expression, noExpression, writesExpression, namesOnly}
+use Rattle.format.specs.Expression.{noExpression, writesExpression, namesOnly}
 use Rattle.format.specs.Rules.{operandOf, fieldOperand, expressionFits}
 use Rattle.format.specs.declared.Constructor.{Constructor}
 use Rattle.format.specs.declared.Operand.{Operand}

@@ -1,12 +1,12 @@
 -- Where a tree's rows stand in the scratch, and what is read there.
-use Prim.Native.Nat.{ℕ, suc, _+_, _*_, _≤_, _<_}
+use Prim.Native.Nat.{ℕ, suc, _+_, _*_, _≤_}
 use mathlib.Core.List.{List, [], _∷_, _++_, append-assoc}
 use mathlib.Core.Path.{_≡_, refl, sym, ap, _∙_}
 use native.Mathlib.Omega.{arith}
 use lib.IntN.{ℤ, pos, natAbs}
-use lib.ListN.{length, getD, drop, length-append}
+use lib.ListN.{length, getD, drop}
 use lib.Seq.{getD-drop, drop-drop, drop-at}
-use Rattle.decoding_spec.specs.Tree.{Node, Nodes, built, numbered, named, computed, none, more}
+use Rattle.decoding_spec.specs.Tree.{Node, Nodes, built, numbered, named, computed, more}
 use Rattle.walk_steps.specs.Scratch.{scratchNumbers, scratchLength, SizedRow, sized, sizedOf, sizedOfAll, scratchRow, scratchOf, putAt, written}
 use Rattle.walk_steps.proofs.Writing.{scratch-length, scratch-append}
 use Rattle.scratch_rows.specs.Places.{cell, kindAt, numberAt, startAt, lastAt, sizeAt}

@@ -24,9 +24,9 @@ use Rattle.choosing_spec.specs.declared.Choice.{Choice}
 use Rattle.choosing_spec.specs.declared.Choice.the-variants as choice
 use Rattle.choosing_spec.specs.Table.{patternFrom}
 use Rattle.choosing_theorems.proofs.Taken.{taken-facts}
-use Rattle.decoding_spec.specs.State.{Setting, withTotal}
+use Rattle.decoding_spec.specs.State.{withTotal}
 use Rattle.decoding_spec.specs.Walk.{numberedFrom, choiceIn}
-use Rattle.setting.specs.Fixed.{totalPlace, gatheredPlace, startsPlace, flag, startsOf, fixedOf, layoutIn, expressionStart, settingIn, Fixed}
+use Rattle.setting.specs.Fixed.{totalPlace, gatheredPlace, startsPlace, fixedOf, layoutIn, expressionStart, settingIn, Fixed}
 use Rattle.setting.specs.Ranges.{RangeOf, chosenAmong}
 
 -- each record obeys its rules

@@ -1,8 +1,8 @@
 -- What is fixed along a walk, as one list of numbers: the sections' places and counts, the input's length, whether the tables' first
 -- constructors were gathered, and these.
-use Prim.Native.Nat.{ℕ, _+_, _*_, _<_}
+use Prim.Native.Nat.{ℕ, _+_, _*_}
 use mathlib.Core.Bool.{Bool, true, false}
-use mathlib.Core.List.{List, [], _∷_, _++_}
+use mathlib.Core.List.{List, _∷_}
 use mathlib.Core.Path.{_≡_}
 use lib.ListN.{length, getD, drop, replicate}
 use Rattle.format.specs.Numbers.{tables, expressionBytes}

@@ -1,15 +1,13 @@
 -- Without expressions no operand is computed, so that the walk is document 01's.
-use Prim.Native.Nat.{ℕ, zero, suc, _+_, _<_, _≤_, max}
-use mathlib.Core.Bool.{Bool, true, false, cond, _&&_, _||_}
+use Prim.Native.Nat.{ℕ, zero, suc, _+_, _<_, max}
 use mathlib.Core.List.{List}
 use mathlib.Core.Path.{_≡_, refl, sym, ap, fun-ext, _∙_}
 use native.Mathlib.Decide.{decLt}
 use native.Mathlib.Omega.{arith}
 use borrow.Author.Tests.{ne-eqb}
-use lib.Dec.{ltb, eqb}
 use lib.ListN.{length, getD, set, replicate, List·getD-eq-default}
 use Rattle.format.specs.Numbers.{mostRows, operandsEach}
-use Rattle.format.specs.Description.{Description, noField, noOperand, noConstructor}
+use Rattle.format.specs.Description.{Description, noOperand, noConstructor}
 use Rattle.lists.proofs.Below.{all-at}
 use Rattle.format.specs.Rules.{operandOk}
 use Rattle.format.specs.Tables.{rootOf}
@@ -19,11 +17,10 @@ use Rattle.format.proofs.Formation.{RulesHold}
 use Rattle.choosing_spec.specs.declared.Choice.{Choice}
 use Rattle.choosing_spec.specs.declared.Choice.the-variants as choice
 use Rattle.decoding_spec.specs.State.{Setting, settingOf, starting, counted}
-use Rattle.decoding_spec.specs.Tree.{Node, Nodes, none, more}
-use Rattle.decoding_spec.specs.Walk.{Result, done, refused, Walker, andThen, full, choiceIn, startOf, operandFrom, operandsFrom, closing, constructorFrom, taking, tableFrom, walkFrom, rejectEmpty, walkedFrom, walkedOf}
+use Rattle.decoding_spec.specs.Tree.{Nodes, more}
+use Rattle.decoding_spec.specs.Walk.{Result, done, refused, Walker, andThen, choiceIn, startOf, operandFrom, operandsFrom, closing, constructorFrom, taking, tableFrom, walkFrom, rejectEmpty, walkedFrom, walkedOf}
 use Rattle.decoding_spec.specs.Instruction.{instructionOf}
 use Rattle.decoding_spec.specs.declared.State.{State}
-use Rattle.decoding_spec.specs.declared.Refusal.the-variants.{TooFar, TooManyRows}
 use Rattle.decoding_theorems.proofs.Records.{expression-placed}
 use Rattle.decoding_theorems.proofs.Shapes.{without-expressions}
 use Rattle.six_section_theorems.specs.Base.{operandBase, operandsBase, constructorBase, takingBase, tableBase, walkBase, instructionBase}

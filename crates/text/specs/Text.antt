@@ -8,7 +8,6 @@ use lib.ListN.{getD, take, drop}
 use Rattle.format.specs.Description.{Description, noField, noName, noConstructor, noPiece}
 use Rattle.format.specs.declared.Name.{Name}
 use Rattle.format.specs.declared.Piece.{Piece}
-use Rattle.format.specs.declared.Range.{Range}
 use Rattle.fields.specs.Look.{lookOf}
 use Rattle.fields.specs.declared.Look.{Look}
 use Rattle.fields.specs.declared.Look.the-variants as look

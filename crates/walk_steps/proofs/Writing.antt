@@ -1,14 +1,14 @@
 -- Numbers put into a list at a place, and rows written behind, or before, rows that are there.
-use Prim.Native.Nat.{ℕ, suc, _+_, _*_, _≤_, _<_}
+use Prim.Native.Nat.{ℕ, suc, _+_, _*_, _≤_}
 use mathlib.Core.Bool.{Bool, true, false, cond}
-use mathlib.Core.List.{List, [], _∷_, _++_, append-assoc, append-nil}
+use mathlib.Core.List.{List, [], _∷_, _++_, append-assoc}
 use mathlib.Core.Path.{_≡_, refl, sym, ap, _∙_}
 use native.Mathlib.Omega.{arith}
 use borrow.Author.Tests.{eqb-true, eq-eqb, ne-eqb}
 use lib.Dec.{eqb}
 use lib.IntN.{ℤ}
-use lib.ListN.{length, take, drop, set, length-append, length-take, length-drop, take-append-drop}
-use lib.Seq.{sets-eq, take-at, drop-at, take-append-le, drop-append-le, take-take, drop-drop, length-take-le}
+use lib.ListN.{length, take, drop, set, length-append, length-drop, take-append-drop}
+use lib.Seq.{sets-eq, take-at, drop-at, take-append-le, take-take, drop-drop, length-take-le}
 use Rattle.format.specs.Numbers.{mostRows}
 use Rattle.walk_steps.specs.Scratch.{scratchNumbers, scratchLength, SizedRow, scratchRow, scratchOf, putAt, written}
 

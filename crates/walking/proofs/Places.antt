@@ -1,14 +1,11 @@
 -- The instruction at a place of the code: the walk is told the length from there on.
-use Prim.Native.Nat.{ℕ, _+_, _-_, _≤_, _<_}
+use Prim.Native.Nat.{ℕ, _-_, _<_}
 use mathlib.Core.List.{List}
-use mathlib.Core.Path.{_≡_, refl, sym, ap, _∙_}
-use native.Mathlib.Omega.{arith}
+use mathlib.Core.Path.{_≡_, sym, ap, _∙_}
 use lib.IntN.{ℤ, pos}
-use lib.ListN.{length, take, drop, set, replicate, length-drop}
-use Rattle.format.specs.declared.Layout.{Layout}
-use Rattle.decoding_spec.specs.State.{Setting, withTotal}
-use Rattle.decoding_spec.specs.Tree.{Node}
-use Rattle.decoding_spec.specs.Walk.{Result, done, refused, walkedFrom, walkedOf}
+use lib.ListN.{length, take, drop, replicate, length-drop}
+use Rattle.decoding_spec.specs.State.{withTotal}
+use Rattle.decoding_spec.specs.Walk.{walkedFrom, walkedOf}
 use Rattle.decoding_spec.specs.declared.State.{State}
 use Rattle.decoding_spec.specs.declared.Refusal.{Refusal}
 use Rattle.setting.specs.Fixed.{Fixed, settingIn, totalPlace}

@@ -1,5 +1,5 @@
 -- The walk over a constructor's operands, turn by turn, and the ways through an operand, a constructor and a table.
-use Prim.Native.Nat.{ℕ, zero, suc, _+_, _-_, _*_, _≤_, _<_, min, max}
+use Prim.Native.Nat.{ℕ, zero, suc, _+_, _-_, _≤_, _<_, min, max}
 use mathlib.Core.List.{List, [], _++_}
 use mathlib.Core.Path.{_≡_, refl, sym, ap, subst, _∙_}
 use native.Mathlib.Decide.{ℕ-discrete, decLt}
@@ -17,12 +17,12 @@ use Rattle.choosing_spec.specs.declared.Choice.{Choice}
 use Rattle.choosing_spec.specs.declared.Choice.the-variants as choice
 use Rattle.decoding_spec.specs.State.{Setting, starting, counted}
 use Rattle.decoding_spec.specs.Tree.{Node, Nodes, none, more}
-use Rattle.decoding_spec.specs.Walk.{Result, done, refused, andThen, choiceIn, startOf, closing, fieldFrom, computedFrom, operandFrom, operandsFrom, constructorFrom, taking, tableFrom, walkFrom, Walker, rejectEmpty, walkedFrom}
+use Rattle.decoding_spec.specs.Walk.{Result, done, refused, andThen, choiceIn, startOf, fieldFrom, computedFrom, operandFrom, operandsFrom, constructorFrom, taking, tableFrom, walkFrom, Walker, rejectEmpty, walkedFrom}
 use Rattle.decoding_spec.specs.declared.State.{State}
 use Rattle.decoding_spec.specs.declared.Refusal.{Refusal}
 use Rattle.decoding_spec.specs.declared.Refusal.the-variants.{Short, NoMatch, Ambiguous, TooFar, TooManyRows, RootLengthZero}
 use Rattle.walk_steps.specs.Scratch.{sizedOf, sizedOfAll, written}
-use Rattle.walk_steps.specs.Steps.{StepsTo, Within, closedAs, closedRows}
+use Rattle.walk_steps.specs.Steps.{StepsTo, closedAs, closedRows}
 use Rattle.walking.specs.Walks.{WalksTo, Walks, Finished, chosenAs, rootChosen}
 use Rattle.walking.specs.declared.Chosen.the-variants as chosen
 use Rattle.walk_steps.specs.declared.Walked.{Walked}

@@ -1,13 +1,13 @@
 -- "Below zero the bit operators read endless two's complement; a right shift rounds down": the operators bit by bit, for every bit.
-use Prim.Native.Nat.{ℕ, zero, suc, _+_, _-_, _*_, _/_, _%_, _^_, _<_, _≤_, min, max}
+use Prim.Native.Nat.{ℕ, zero, suc, _+_, _-_, _*_, _/_, _%_, _^_, _<_, min, max}
 use mathlib.Core.Bool.{Bool, true, false, not, _&&_, _||_, Bool·beq, false≢true}
-use mathlib.Core.Path.{_≡_, refl, sym, ap, _∙_}
+use mathlib.Core.Path.{_≡_, refl, sym, ap}
 use native.Mathlib.Nat.{add-comm, mod-lt, div-add-mod', div-eq-of-lt}
 use native.Mathlib.Omega.{arith}
-use lib.Bits.{bitAnd, bitOr, bitXor, differ, and-le-l, xor-add-and}
+use lib.Bits.{bitAnd, bitXor, differ, and-le-l, xor-add-and}
 use lib.Dec.{eqb}
 use lib.IntN.{ℤ, pos, negsuc, negℤ, _+ℤ_, _*ℤ_}
-use lib.Pow.{pow-pos, pow-lt, pow-mono, shr-shr}
+use lib.Pow.{pow-pos, pow-mono, shr-shr}
 use Rattle.bits.specs.Bits.{bit, isSet}
 use Rattle.bits.proofs.Digits.{bit-small, either, bit-and, bit-or, bit-xor}
 use Rattle.bits.proofs.Words.{same-bits}

@@ -1,17 +1,15 @@
 -- What is kept of a whole number, and how the machine holds it.
 use Prim.Native.Nat.{ℕ, _^_, _<_}
 use mathlib.Core.Bool.{Bool, true, false, cond}
-use mathlib.Core.Path.{_≡_, refl, sym}
+use mathlib.Core.Path.{_≡_, refl}
 use native.Mathlib.Omega.{arith}
 use borrow.Author.Tests.{ltb-true, lt-ltb}
-use lib.Dec.{ltb}
 use lib.IntN.{ℤ}
 use lib.Signed.{mag}
 use mir.Facts.{toZ-ofZ}
 use mir.Syntax.{w64}
 use mir.Val.{SFits, toZ, ofZ}
 use Rattle.whole_numbers.specs.Range.{inside, kept}
-use Rattle.whole_numbers.specs.declared.Whole.{Whole}
 use Rattle.whole_numbers.specs.declared.Whole.the-variants.{Value, Outside}
 
 pub inside-mag : (z : ℤ) → inside z ≡ true → mag z < 2 ^ 63

@@ -1,8 +1,8 @@
 -- Products: where they are in range, tested by a quotient of the distances from zero.
-use Prim.Native.Nat.{ℕ, zero, suc, _+_, _-_, _*_, _/_, _^_, _<_, _≤_}
-use mathlib.Core.Bool.{Bool, true, false, Bool·beq, false≢true}
-use mathlib.Core.Path.{_≡_, refl, sym, ap, _∙_}
-use native.Mathlib.Nat.{mul-zero, mul-comm, le-div-iff-mul-le}
+use Prim.Native.Nat.{ℕ, zero, suc, _+_, _-_, _*_, _/_, _^_, _<_}
+use mathlib.Core.Bool.{true, false, Bool·beq, false≢true}
+use mathlib.Core.Path.{_≡_, refl, sym}
+use native.Mathlib.Nat.{mul-zero, le-div-iff-mul-le}
 use native.Mathlib.Omega.{arith}
 use borrow.Author.Tests.{le-ltb, leb-true, le-leb}
 use lib.Dec.{T, leb, leb·suc-suc}

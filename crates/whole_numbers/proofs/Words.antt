@@ -1,8 +1,8 @@
 -- The machine's words: and, or, exclusive or and shifts of the 64 bits, and what they make of the numbers.
-use Prim.Native.Nat.{ℕ, zero, suc, _+_, _-_, _*_, _/_, _%_, _^_, _<_, _≤_, min}
-use mathlib.Core.Bool.{Bool, true, false, _||_}
-use mathlib.Core.Path.{_≡_, refl, sym, ap, _∙_}
-use native.Mathlib.Nat.{mod-eq-of-lt, add-mul-mod-self-left, mul-le-mul-right, lt-of-mul-lt-mul-right, div-lt-iff-lt-mul, div-le-self, mul-comm}
+use Prim.Native.Nat.{ℕ, zero, suc, _+_, _-_, _*_, _/_, _%_, _^_, _<_, _≤_}
+use mathlib.Core.Bool.{Bool, true, _||_}
+use mathlib.Core.Path.{_≡_, sym, ap, _∙_}
+use native.Mathlib.Nat.{mod-eq-of-lt, add-mul-mod-self-left, mul-le-mul-right, lt-of-mul-lt-mul-right, div-lt-iff-lt-mul, div-le-self}
 use native.Mathlib.Omega.{arith}
 use borrow.Author.Tests.{eq-eqb, ne-eqb, eqb-true, lt-ltb, ltb-true, le-leb, leb-true}
 use lib.Bits.{bitAnd, bitOr, bitXor, and-step, and-zero-l, and-comm, and-le-l, or-comm, xor-comm, or-add-and, xor-add-and, or-lt, xor-lt}

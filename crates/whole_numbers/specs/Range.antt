@@ -1,5 +1,5 @@
 -- "Values are whole numbers ..; any on the way outside signed 64 bits is refused".
-use Prim.Native.Nat.{ℕ, _^_}
+use Prim.Native.Nat.{_^_}
 use mathlib.Core.Bool.{Bool, cond}
 use lib.Dec.{ltb}
 use lib.IntN.{ℤ}

@@ -3,8 +3,6 @@ use Rattle.expressions.proofs.Names.{beyond}
 use borrow.Author.Needs.{needs}
 use Rattle.expressions.proofs.allows.Statement.{statement}
 use Rattle.expressions.proofs.allows.Tie as tie
-use Rattle.expressions.proofs.allows.Reads as reads
-use Rattle.expressions.proofs.allows.Lts as lts
 
 returns : tie.Need-returns
 returns c = sym (beyond 16 (c .before .args .operands) (c .before .args .n) (c .before .fits .operands .fits) (c .if1 .taken))

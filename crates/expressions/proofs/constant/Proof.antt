@@ -2,8 +2,6 @@ use Rattle.expressions.proofs.Making.{constant-above, constant-below}
 use borrow.Author.Needs.{needs}
 use Rattle.expressions.proofs.constant.Statement.{statement}
 use Rattle.expressions.proofs.constant.Tie as tie
-use Rattle.expressions.proofs.constant.Reads as reads
-use Rattle.expressions.proofs.constant.Lts as lts
 
 cast-result : tie.Need-cast-result
 cast-result c = search needs

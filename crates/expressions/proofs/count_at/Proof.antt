@@ -3,8 +3,6 @@ use Rattle.expressions.proofs.Records.{count-here}
 use borrow.Author.Needs.{needs}
 use Rattle.expressions.proofs.count_at.Statement.{statement}
 use Rattle.expressions.proofs.count_at.Tie as tie
-use Rattle.expressions.proofs.count_at.Reads as reads
-use Rattle.expressions.proofs.count_at.Lts as lts
 
 shared-slice-read-count : tie.Need-shared-slice-read-count
 shared-slice-read-count c = search needs

@@ -1,24 +1,17 @@
 use Prim.Native.Nat.{suc, _-_, _+_, _≤_, _<_}
-use mathlib.Core.Bool.{true}
 use mathlib.Core.Path.{_≡_, sym, ap, _∙_}
 use native.Mathlib.Omega.{arith}
 use lib.IntN.{pos}
 use lib.ListN.{getD, length}
-use mir.Facts.{toZ-ofZ}
-use Rattle.format.specs.Expression.{Expression, expressionAt, stepOf}
-use Rattle.whole_numbers.specs.Range.{kept, inside}
+use Rattle.format.specs.Expression.{Expression, expressionAt}
+use Rattle.whole_numbers.specs.Range.{kept}
 use Rattle.whole_numbers.proofs.Kept.{back, inside-mag, is-value, is-outside}
-use Rattle.expressions.specs.Value.{Given, given, numbered, madeOf, topAfter}
-use Rattle.expressions.proofs.Records.{count-here, Written, written}
+use Rattle.expressions.specs.Value.{Given, given, numbered, topAfter}
+use Rattle.expressions.proofs.Records.{count-here, written}
 use Rattle.expressions.proofs.Names.{names-at}
 use Rattle.expressions.proofs.Running.{Running, Good, good-step, running-start, running-made, running-step, running-stop, running-end}
 use Rattle.expressions.proofs.evaluate.Statement.{statement}
 use Rattle.expressions.proofs.evaluate.Tie as tie
-use Rattle.expressions.proofs.evaluate.Reads as reads
-use Rattle.expressions.proofs.evaluate.Lts as lts
-use Rattle.expressions.proofs.make.Reads as make-reads
-use Rattle.expressions.proofs.step_at.Reads as step-at-reads
-use Rattle.expressions.proofs.taken.Reads as taken-reads
 
 abbrev Inv-loop : tie.InvT-loop
 Inv-loop s at operands here after count stack₀ top₀ i₀ stack top i = (i ≤ count) × Running (given operands here after) (expressionAt s at) i stack top

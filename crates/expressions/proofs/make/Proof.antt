@@ -5,10 +5,6 @@ use Rattle.expressions.proofs.Making.{made-term, made-operator}
 use borrow.Author.Needs.{needs}
 use Rattle.expressions.proofs.make.Statement.{statement}
 use Rattle.expressions.proofs.make.Tie as tie
-use Rattle.expressions.proofs.make.Reads as reads
-use Rattle.expressions.proofs.make.Lts as lts
-use Rattle.expressions.proofs.operate.Reads as operate-reads
-use Rattle.expressions.proofs.term.Reads as term-reads
 
 term-requires : tie.Need-term-requires
 term-requires c κs = search needs

@@ -4,9 +4,6 @@ use Rattle.expressions.proofs.Names.{names-none, names-one}
 use borrow.Author.Needs.{needs}
 use Rattle.expressions.proofs.named_ok.Statement.{statement}
 use Rattle.expressions.proofs.named_ok.Tie as tie
-use Rattle.expressions.proofs.named_ok.Reads as reads
-use Rattle.expressions.proofs.named_ok.Lts as lts
-use Rattle.expressions.proofs.allows.Reads as allows-reads
 
 returns : tie.Need-returns
 returns c = let s = c .before .before in names-none (isSet (s .args .operands)) (s .args .step) (c .if1 .taken)

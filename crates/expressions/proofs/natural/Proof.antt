@@ -1,16 +1,14 @@
 use lib.IntN.{pos}
 use mathlib.Core.Path.{ap, _∙_}
-use borrow.Author.Tests.{le-ltb, lt-ltb}
+use borrow.Author.Tests.{le-ltb}
 use mir.Facts.{toZ-pos}
 use mir.Syntax.{w64}
-use Rattle.whole_numbers.specs.Range.{inside, kept}
+use Rattle.whole_numbers.specs.Range.{inside}
 use Rattle.whole_numbers.specs.declared.Whole.the-variants.{Value}
 use Rattle.whole_numbers.proofs.Kept.{kept-is, mag-inside, refuses}
 use borrow.Author.Needs.{needs}
 use Rattle.expressions.proofs.natural.Statement.{statement}
 use Rattle.expressions.proofs.natural.Tie as tie
-use Rattle.expressions.proofs.natural.Reads as reads
-use Rattle.expressions.proofs.natural.Lts as lts
 
 cast-t3 : tie.Need-cast-t3
 cast-t3 c = search needs

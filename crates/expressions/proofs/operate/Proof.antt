@@ -13,16 +13,6 @@ use Rattle.expressions.proofs.Making.{is-plus, is-minus, is-times, is-a
 use borrow.Author.Needs.{needs}
 use Rattle.expressions.proofs.operate.Statement.{statement}
 use Rattle.expressions.proofs.operate.Tie as tie
-use Rattle.expressions.proofs.operate.Reads as reads
-use Rattle.expressions.proofs.operate.Lts as lts
-use Rattle.whole_numbers.proofs.and.Reads as and-reads
-use Rattle.whole_numbers.proofs.left.Reads as left-reads
-use Rattle.whole_numbers.proofs.minus.Reads as minus-reads
-use Rattle.whole_numbers.proofs.or.Reads as or-reads
-use Rattle.whole_numbers.proofs.plus.Reads as plus-reads
-use Rattle.whole_numbers.proofs.right.Reads as right-reads
-use Rattle.whole_numbers.proofs.times.Reads as times-reads
-use Rattle.whole_numbers.proofs.xor.Reads as xor-reads
 
 -- what a function gives as an i64 is kept
 held : (z : ℤ) → mag z < 2 ^ 63 → Value (toZ w64 (ofZ w64 z)) ≡ kept z

@@ -1,13 +1,13 @@
 use Prim.Native.Nat.{_-_, _≤_}
-use mathlib.Core.Bool.{true, false, _&&_}
-use mathlib.Core.Path.{_≡_, sym, _∙_}
+use mathlib.Core.Bool.{true, _&&_}
+use mathlib.Core.Path.{_≡_, _∙_}
 use native.Mathlib.Omega.{arith}
 use borrow.Author.Tests.{not-true, not-false}
 use lib.Dec.{eqb}
 use Rattle.lists.specs.Below.{allBelow}
 use Rattle.lists.proofs.Below.{all-more}
 use Rattle.format.specs.Expression.{Expression, expressionAt}
-use Rattle.expressions.proofs.Records.{count-here, blank, blank-is, rest-start, rest-stop, rest-end}
+use Rattle.expressions.proofs.Records.{blank, blank-is, rest-start, rest-stop, rest-end}
 use Rattle.expressions.proofs.rest_empty.Statement.{statement}
 use Rattle.expressions.proofs.rest_empty.Tie as tie
 use Rattle.expressions.proofs.rest_empty.Reads as reads

@@ -2,9 +2,6 @@ use Rattle.expressions.proofs.Records.{step-here}
 use borrow.Author.Needs.{needs}
 use Rattle.expressions.proofs.step_at.Statement.{statement}
 use Rattle.expressions.proofs.step_at.Tie as tie
-use Rattle.expressions.proofs.step_at.Reads as reads
-use Rattle.expressions.proofs.step_at.Lts as lts
-use Rattle.format.proofs.quad.Reads as quad-reads
 
 add-start : tie.Need-add-start
 add-start c = search needs

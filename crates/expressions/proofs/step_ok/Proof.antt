@@ -2,10 +2,6 @@ use Rattle.format.specs.Expression.{stepOk}
 use borrow.Author.Needs.{needs}
 use Rattle.expressions.proofs.step_ok.Statement.{statement}
 use Rattle.expressions.proofs.step_ok.Tie as tie
-use Rattle.expressions.proofs.step_ok.Reads as reads
-use Rattle.expressions.proofs.step_ok.Lts as lts
-use Rattle.expressions.proofs.taken.Reads as taken-reads
-use Rattle.expressions.proofs.value_ok.Reads as value-ok-reads
 
 value-ok-requires : tie.Need-value-ok-requires
 value-ok-requires c κs = search needs

@@ -1,9 +1,9 @@
 use Prim.Native.Nat.{_-_, _≤_}
-use mathlib.Core.Bool.{true, false}
+use mathlib.Core.Bool.{true}
 use mathlib.Core.Path.{_≡_, sym, _∙_}
 use native.Mathlib.Omega.{arith}
 use borrow.Author.Tests.{not-true, not-false}
-use Rattle.format.specs.Expression.{expressionAt, stepOf, stepOk, takes}
+use Rattle.format.specs.Expression.{expressionAt, stepOk}
 use Rattle.expressions.proofs.Records.{count-here, Stepping, stepping-start, stepping-more, stepping-stop, stepping-end, enough}
 use Rattle.expressions.proofs.steps_ok.Statement.{statement}
 use Rattle.expressions.proofs.steps_ok.Tie as tie

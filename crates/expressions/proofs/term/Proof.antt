@@ -1,7 +1,6 @@
 use Prim.Native.Nat.{_≤_}
-use mathlib.Core.Path.{_≡_, ap, sym, _∙_}
+use mathlib.Core.Path.{ap, sym, _∙_}
 use native.Mathlib.Omega.{arith}
-use mir.Facts.{toZ-ofZ}
 use lib.ListN.{length}
 use Rattle.whole_numbers.specs.Range.{kept}
 use Rattle.whole_numbers.proofs.Kept.{keeps, mag-inside}

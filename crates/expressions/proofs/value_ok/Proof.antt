@@ -2,8 +2,6 @@ use mathlib.Core.Path.{refl}
 use Rattle.format.specs.Expression.{stepValueOk}
 use Rattle.expressions.proofs.value_ok.Statement.{statement}
 use Rattle.expressions.proofs.value_ok.Tie as tie
-use Rattle.expressions.proofs.value_ok.Reads as reads
-use Rattle.expressions.proofs.value_ok.Lts as lts
 
 returns : tie.Need-returns
 unfolding stepValueOk

@@ -1,5 +1,5 @@
 -- `instructions::computed_at` meets its contract. Assumes nothing.
-use mathlib.Core.Path.{_≡_, sym, _∙_}
+use mathlib.Core.Path.{_∙_}
 use native.Mathlib.Omega.{arith}
 use Rattle.scratch_rows.specs.Places.{numberAt}
 use Rattle.instructions.proofs.Gathering.{owner-low}
@@ -7,13 +7,6 @@ use Rattle.instructions.proofs.Evaluating.{index-inside, usable-at, com
 use borrow.Author.Needs.{needs}
 use Rattle.instructions.proofs.computed_at.Statement.{statement}
 use Rattle.instructions.proofs.computed_at.Tie as tie
-use Rattle.instructions.proofs.computed_at.Reads as reads
-use Rattle.instructions.proofs.computed_at.Lts as lts
-use Rattle.expressions.proofs.evaluate.Reads as evaluate-reads
-use Rattle.instructions.proofs.counts_at.Reads as counts-at-reads
-use Rattle.instructions.proofs.owner_of.Reads as owner-of-reads
-use Rattle.scratch_rows.proofs.column.Reads as column-reads
-use Rattle.setting.proofs.expression_place.Reads as expression-place-reads
 
 owner-of-requires : tie.Need-owner-of-requires
 owner-of-requires c κs = search needs

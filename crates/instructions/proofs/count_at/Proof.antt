@@ -1,26 +1,16 @@
 -- `instructions::count_at` meets its contract. Assumes nothing.
 use Prim.Native.Nat.{_-_}
-use mathlib.Core.Path.{_≡_, sym, ap, _∙_}
+use mathlib.Core.Path.{sym, ap, _∙_}
 use native.Mathlib.Omega.{arith}
-use lib.IntN.{pos, natAbs}
-use lib.ListN.{getD}
-use lib.Signed.{mag}
+use lib.IntN.{pos}
 use mir.Facts.{toZ-ofZ, toZ-pos}
 use mir.Syntax.{w64}
-use Rattle.format.specs.Description.{noField}
-use Rattle.setting.specs.Fixed.{settingIn}
-use Rattle.scratch_rows.specs.Places.{kindAt, numberAt, lastAt}
+use Rattle.scratch_rows.specs.Places.{numberAt, lastAt}
 use Rattle.scratch_rows.proofs.Standing.{kind-here}
 use Rattle.instructions.proofs.Gathering.{count-number, count-name, count-none, small-name}
 use borrow.Author.Needs.{needs}
 use Rattle.instructions.proofs.count_at.Statement.{statement}
 use Rattle.instructions.proofs.count_at.Tie as tie
-use Rattle.instructions.proofs.count_at.Reads as reads
-use Rattle.instructions.proofs.count_at.Lts as lts
-use Rattle.instructions.proofs.less.Reads as less-reads
-use Rattle.printing.proofs.magnitude.Reads as magnitude-reads
-use Rattle.scratch_rows.proofs.column.Reads as column-reads
-use Rattle.setting.proofs.field.Reads as field-reads
 
 mul-column : tie.Need-mul-column
 mul-column c = search needs

@@ -1,6 +1,6 @@
 -- `instructions::counts_at` meets its contract. Assumes nothing.
-use Prim.Native.Nat.{_+_, _-_, _≤_, _<_}
-use mathlib.Core.Path.{_≡_, refl, sym, _∙_}
+use Prim.Native.Nat.{_-_}
+use mathlib.Core.Path.{_≡_, refl}
 use native.Mathlib.Omega.{arith}
 use mir.Facts.{toZ-ofZ}
 use Rattle.setting.specs.Fixed.{settingIn}
@@ -8,10 +8,6 @@ use Rattle.scratch_rows.specs.Places.{sizeAt}
 use Rattle.instructions.proofs.Gathering.{Gathered, gather-none, gather-end, gather-more, gather-all}
 use Rattle.instructions.proofs.counts_at.Statement.{statement}
 use Rattle.instructions.proofs.counts_at.Tie as tie
-use Rattle.instructions.proofs.counts_at.Reads as reads
-use Rattle.instructions.proofs.counts_at.Lts as lts
-use Rattle.instructions.proofs.count_at.Reads as count-at-reads
-use Rattle.scratch_rows.proofs.column.Reads as column-reads
 
 abbrev Inv-loop : tie.InvT-loop
 Inv-loop desc fixed rows used owner end counts₀ row₀ o₀ counts row o = Gathered (settingIn desc fixed .description) rows used owner end counts row o

@@ -1,15 +1,12 @@
 -- `instructions::owner_of` meets its contract. Assumes nothing.
-use Prim.Native.Nat.{_+_, _-_, _≤_, _<_}
-use mathlib.Core.Path.{_≡_, refl, sym, _∙_}
+use Prim.Native.Nat.{_-_, _≤_}
+use mathlib.Core.Path.{_≡_, refl, _∙_}
 use native.Mathlib.Omega.{arith}
 use Rattle.scratch_rows.specs.Places.{sizeAt}
 use Rattle.instructions.specs.Settling.{ownerBelow}
 use Rattle.instructions.proofs.Gathering.{owner-found, owner-on, owner-none}
 use Rattle.instructions.proofs.owner_of.Statement.{statement}
 use Rattle.instructions.proofs.owner_of.Tie as tie
-use Rattle.instructions.proofs.owner_of.Reads as reads
-use Rattle.instructions.proofs.owner_of.Lts as lts
-use Rattle.scratch_rows.proofs.column.Reads as column-reads
 
 abbrev Inv-loop : tie.InvT-loop
 Inv-loop rows row k₀ k = (k ≤ row) × (ownerBelow rows row k ≡ ownerBelow rows row row)

@@ -1,15 +1,12 @@
 -- `instructions::settle` meets its contract. Assumes nothing.
 use Prim.Native.Nat.{_-_}
-use mathlib.Core.Path.{_≡_, refl, sym, _∙_}
+use mathlib.Core.Path.{_∙_}
 use native.Mathlib.Omega.{arith}
 use borrow.Author.Needs.{needs}
 use Rattle.setting.specs.Fixed.{settingIn}
 use Rattle.instructions.proofs.Evaluating.{SettledTo, settled-none, settled-all, settled-stop, settled-next}
 use Rattle.instructions.proofs.settle.Statement.{statement}
 use Rattle.instructions.proofs.settle.Tie as tie
-use Rattle.instructions.proofs.settle.Reads as reads
-use Rattle.instructions.proofs.settle.Lts as lts
-use Rattle.instructions.proofs.settle_row.Reads as settle-row-reads
 
 abbrev Inv-loop : tie.InvT-loop
 Inv-loop desc fixed rows₀ used here after row₀ rows row = SettledTo (settingIn desc fixed .description) here after used rows₀ rows row

@@ -8,10 +8,6 @@ use Rattle.instructions.proofs.Evaluating.{computed-small, settle-plain
 use borrow.Author.Needs.{needs}
 use Rattle.instructions.proofs.settle_row.Statement.{statement}
 use Rattle.instructions.proofs.settle_row.Tie as tie
-use Rattle.instructions.proofs.settle_row.Reads as reads
-use Rattle.instructions.proofs.settle_row.Lts as lts
-use Rattle.instructions.proofs.computed_at.Reads as computed-at-reads
-use Rattle.scratch_rows.proofs.column.Reads as column-reads
 
 mul-column : tie.Need-mul-column
 mul-column c = search needs

@@ -1,15 +1,14 @@
 -- `instructions::settle_walk` meets its contract. Assumes nothing.
 use Prim.Native.Nat.{_+_, _≤_}
 use mathlib.Core.List.{List}
-use mathlib.Core.Path.{_≡_, sym, ap, _∙_}
 use native.Mathlib.Omega.{arith}
 use Rattle.format.specs.Numbers.{longest}
 use lib.IntN.{ℤ}
 use Rattle.decoding_spec.specs.Instruction.{Valued}
 use Rattle.setting.specs.Fixed.{settingIn}
 use Rattle.walk_steps.specs.declared.Walked.the-variants.{Done}
-use Rattle.instructions.specs.Settling.{settledFrom, settledWalk}
-use Rattle.instructions.specs.Instructions.{ReadableRows, Settleable}
+use Rattle.instructions.specs.Settling.{settledFrom}
+use Rattle.instructions.specs.Instructions.{ReadableRows}
 use Rattle.instructions.proofs.Ending.{settled-inside, settled-outside}
 use borrow.Author.Needs.{needs}
 use Rattle.instructions.proofs.settle_walk.Statement.{statement}

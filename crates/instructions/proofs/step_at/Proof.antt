@@ -1,5 +1,5 @@
 -- `instructions::step_at` meets its contract. Assumes nothing.
-use mathlib.Core.Path.{_≡_, ap, _∙_}
+use mathlib.Core.Path.{ap, _∙_}
 use Rattle.walk_steps.specs.Steps.{answerOf}
 use Rattle.walking.specs.Walks.{Instruction}
 use Rattle.instructions.specs.Instructions.{resultAt, steppedAs}

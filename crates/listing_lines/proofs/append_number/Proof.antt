@@ -7,9 +7,6 @@ use Rattle.listing_lines.proofs.Appending.{number-put, number-count, nu
 use borrow.Author.Needs.{needs}
 use Rattle.listing_lines.proofs.append_number.Statement.{statement}
 use Rattle.listing_lines.proofs.append_number.Tie as tie
-use Rattle.listing_lines.proofs.append_number.Reads as reads
-use Rattle.listing_lines.proofs.append_number.Lts as lts
-use Rattle.printing.proofs.put_plain.Reads as put-plain-reads
 
 sub-put-plain : tie.Need-sub-put-plain
 sub-put-plain c = search needs

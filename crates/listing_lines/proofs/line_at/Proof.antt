@@ -7,10 +7,6 @@ use Rattle.listing_lines.proofs.Made.{line-made}
 use borrow.Author.Needs.{needs}
 use Rattle.listing_lines.proofs.line_at.Statement.{statement}
 use Rattle.listing_lines.proofs.line_at.Tie as tie
-use Rattle.listing_lines.proofs.line_at.Reads as reads
-use Rattle.listing_lines.proofs.line_at.Lts as lts
-use Rattle.listing_lines.proofs.put_line.Reads as put-line-reads
-use Rattle.listing_lines.proofs.show.Reads as show-reads
 
 slice-aggregate-show : tie.Need-slice-aggregate-show
 slice-aggregate-show c = search needs

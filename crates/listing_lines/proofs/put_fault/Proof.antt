@@ -1,8 +1,7 @@
 -- `listing_lines::put_fault` meets its contract. Assumes nothing.
 use mathlib.Core.Logic.{inl}
-use mathlib.Core.Path.{_≡_, refl, sym, ap, _∙_}
+use mathlib.Core.Path.{refl}
 use native.Mathlib.Omega.{arith}
-use lib.ListN.{length}
 use Rattle.printing.specs.Numerals.{digitsOf}
 use Rattle.printing.proofs.Numerals.{digits-length}
 use Rattle.listing_lines.specs.Line.{malformedText, malformedWord}
@@ -10,10 +9,6 @@ use Rattle.listing_lines.proofs.Appending.{put-first, put-more}
 use borrow.Author.Needs.{needs}
 use Rattle.listing_lines.proofs.put_fault.Statement.{statement}
 use Rattle.listing_lines.proofs.put_fault.Tie as tie
-use Rattle.listing_lines.proofs.put_fault.Reads as reads
-use Rattle.listing_lines.proofs.put_fault.Lts as lts
-use Rattle.listing_lines.proofs.append.Reads as append-reads
-use Rattle.listing_lines.proofs.append_number.Reads as append-number-reads
 
 slice-aggregate-append : tie.Need-slice-aggregate-append
 slice-aggregate-append c = search needs

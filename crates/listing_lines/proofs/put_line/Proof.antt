@@ -2,7 +2,7 @@
 use borrow.Author.Needs.{needs}
 use mathlib.Core.List.{[], _∷_, _++_}
 use native.Mathlib.Omega.{arith}
-use lib.ListN.{length, length-append}
+use lib.ListN.{length-append}
 use Rattle.listing_lines.specs.Line.{addressText, lineText}
 use Rattle.listing_lines.proofs.Appending.{put-more, address-long}
 use Rattle.listing_lines.proofs.put_line.Statement.{statement}

@@ -2,9 +2,6 @@ use Rattle.listing_lines.specs.Line.{hexDigits}
 use borrow.Author.Needs.{needs}
 use Rattle.listing_lines.proofs.short_address.Statement.{statement}
 use Rattle.listing_lines.proofs.short_address.Tie as tie
-use Rattle.listing_lines.proofs.short_address.Reads as reads
-use Rattle.listing_lines.proofs.short_address.Lts as lts
-use Rattle.listing_lines.proofs.digit.Reads as digit-reads
 
 digit-requires : tie.Need-digit-requires
 digit-requires c κs = search needs

@@ -5,17 +5,12 @@ use mathlib.Core.Path.{_≡_, refl, ap, _∙_}
 use native.Mathlib.Omega.{arith}
 use borrow.Author.Needs.{needs}
 use lib.ListN.{length}
-use Rattle.format.specs.Description.{Description, description}
+use Rattle.format.specs.Description.{description}
 use Rattle.setting.proofs.Laws.{fixed-of, setting-of}
 use Rattle.text.specs.Prints.{described}
-use Rattle.listing_text.proofs.Turns.{LoopState, first-turn, room-left, last-turn, place-there, prefix-long, full-turn, count-fits, next-turn, moves, size-fits, lines-fit}
+use Rattle.listing_text.proofs.Turns.{LoopState, first-turn, last-turn, place-there, prefix-long, full-turn, count-fits, next-turn, moves, size-fits, lines-fit}
 use Rattle.listing_text.proofs.list_in.Statement.{statement}
 use Rattle.listing_text.proofs.list_in.Tie as tie
-use Rattle.listing_text.proofs.list_in.Reads as reads
-use Rattle.listing_text.proofs.list_in.Lts as lts
-use Rattle.listing_lines.proofs.line_at.Reads as line-at-reads
-use Rattle.printing.proofs.put_bytes.Reads as put-bytes-reads
-use Rattle.setting.proofs.fill.Reads as fill-reads
 
 abbrev Inv-loop : tie.InvT-loop
 Inv-loop desc context address code from out₀ fixed₀ at₀ bytes₀ lines₀ out fixed at bytes lines = LoopState desc fixed₀ context address code out₀ from fixed out at bytes lines

@@ -6,10 +6,6 @@ use lib.Seq.{take-all}
 use borrow.Author.Needs.{needs}
 use Rattle.printing.proofs.put_plain.Statement.{statement}
 use Rattle.printing.proofs.put_plain.Tie as tie
-use Rattle.printing.proofs.put_plain.Reads as reads
-use Rattle.printing.proofs.put_plain.Lts as lts
-use Rattle.printing.proofs.put_bytes.Reads as put-bytes-reads
-use Rattle.printing.proofs.put_digits.Reads as put-digits-reads
 
 put-digits-requires : tie.Need-put-digits-requires
 put-digits-requires c κs = (length-replicate {A = ℕ} 23 0, search needs)

@@ -1,12 +1,8 @@
 -- `setting::fill` meets its contract. Assumes nothing.
-use mathlib.Core.Path.{refl}
 use Rattle.setting.specs.Fixed.{fixedOf}
 use borrow.Author.Needs.{needs}
 use Rattle.setting.proofs.fill.Statement.{statement}
 use Rattle.setting.proofs.fill.Tie as tie
-use Rattle.setting.proofs.fill.Reads as reads
-use Rattle.setting.proofs.fill.Lts as lts
-use Rattle.setting.proofs.with_starts.Reads as with-starts-reads
 
 array-write-fixed : tie.Need-array-write-fixed
 array-write-fixed c = search needs

@@ -4,10 +4,6 @@ use Rattle.sweep.proofs.Places.{gap-step, row-step}
 use borrow.Author.Needs.{needs}
 use Rattle.sweep.proofs.step_at.Statement.{statement}
 use Rattle.sweep.proofs.step_at.Tie as tie
-use Rattle.sweep.proofs.step_at.Reads as reads
-use Rattle.sweep.proofs.step_at.Lts as lts
-use Rattle.sweep.proofs.gap_of.Reads as gap-of-reads
-use Rattle.instructions.proofs.step_at.Reads as step-at-reads
 
 step-at-requires : tie.Need-step-at-requires
 step-at-requires c κs = search needs

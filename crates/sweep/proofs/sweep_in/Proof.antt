@@ -14,11 +14,6 @@ use Rattle.sweep.proofs.Places.{Fits}
 use Rattle.sweep.proofs.Turns.{LoopState, first-turn, next-turn, row-fits, step-here, fixed-here, outcome-in, swept, long, used-up, no-room, stops}
 use Rattle.sweep.proofs.sweep_in.Statement.{statement}
 use Rattle.sweep.proofs.sweep_in.Tie as tie
-use Rattle.sweep.proofs.sweep_in.Reads as reads
-use Rattle.sweep.proofs.sweep_in.Lts as lts
-use Rattle.setting.proofs.fill.Reads as fill-reads
-use Rattle.sweep.proofs.put_row.Reads as put-row-reads
-use Rattle.sweep.proofs.step_at.Reads as step-at-reads
 
 abbrev Inv-loop : tie.InvT-loop
 Inv-loop desc context address code rows₀ fixed₀ room at₀ n₀ rows fixed at n = LoopState desc fixed₀ context address code room rows₀ rows fixed at n

@@ -1,7 +1,6 @@
 use Prim.Native.Nat.{_-_}
 use mathlib.Core.Path.{sym, _∙_}
 use native.Mathlib.Omega.{arith}
-use borrow.Author.Needs.{needs}
 use Rattle.format.specs.Numbers.{expressionBytes}
 use Rattle.format.specs.Expression.{expressionAt, noExpression, writesExpression}
 use Rattle.format.specs.Description.{expressionsOf}

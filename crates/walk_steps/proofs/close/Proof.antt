@@ -11,10 +11,6 @@ use Rattle.walk_steps.specs.declared.Walked.the-variants.{Done}
 use borrow.Author.Needs.{needs}
 use Rattle.walk_steps.proofs.close.Statement.{statement}
 use Rattle.walk_steps.proofs.close.Tie as tie
-use Rattle.walk_steps.proofs.close.Reads as reads
-use Rattle.walk_steps.proofs.close.Lts as lts
-use Rattle.walk_steps.proofs.larger.Reads as larger-reads
-use Rattle.walk_steps.proofs.put_row.Reads as put-row-reads
 
 -- the bounds of the operands' walk, where it was done
 came : (c : tie.After-walked2) → Within (c .before .before .args .at) (c .before .before .args .used + 1) (Done (c .walked2 .given .0 .0) (c .walked2 .given .0 .1 .0))

@@ -3,11 +3,6 @@ use Rattle.walk_steps.proofs.Steps.{computed-full, computed-far, comput
 use borrow.Author.Needs.{needs}
 use Rattle.walk_steps.proofs.computed_from.Statement.{statement}
 use Rattle.walk_steps.proofs.computed_from.Tie as tie
-use Rattle.walk_steps.proofs.computed_from.Reads as reads
-use Rattle.walk_steps.proofs.computed_from.Lts as lts
-use Rattle.walk_steps.proofs.one_more.Reads as one-more-reads
-use Rattle.walk_steps.proofs.put_row.Reads as put-row-reads
-use Rattle.walk_steps.proofs.wide.Reads as wide-reads
 
 returns : tie.Need-returns
 returns c g e = computed-full g _ _ _ _ (c .if1 .taken)

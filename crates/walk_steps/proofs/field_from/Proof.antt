@@ -1,7 +1,7 @@
 -- `walk_steps::field_from` meets its contract. Assumes nothing.
 use Prim.Native.Nat.{ℕ, _+_}
 use mathlib.Core.Bool.{true}
-use mathlib.Core.Path.{_≡_, sym, _∙_, ap}
+use mathlib.Core.Path.{_≡_, _∙_, ap}
 use native.Mathlib.Omega.{arith}
 use lib.ListN.{length, getD}
 use Rattle.format.specs.Description.{noField}
@@ -15,12 +15,6 @@ use Rattle.walk_steps.proofs.Steps.{near-end, field-full, field-far, fi
 use borrow.Author.Needs.{needs}
 use Rattle.walk_steps.proofs.field_from.Statement.{statement}
 use Rattle.walk_steps.proofs.field_from.Tie as tie
-use Rattle.walk_steps.proofs.field_from.Reads as reads
-use Rattle.walk_steps.proofs.field_from.Lts as lts
-use Rattle.setting.proofs.field.Reads as field-reads
-use Rattle.walk_steps.proofs.show.Reads as show-reads
-use Rattle.walk_steps.proofs.wide.Reads as wide-reads
-use Rattle.walk_steps.proofs.width_of.Reads as width-of-reads
 
 -- the record at the index, and where it ends
 found : (c : tie.After-field)

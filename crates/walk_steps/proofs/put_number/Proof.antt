@@ -1,17 +1,10 @@
 -- `walk_steps::put_number` meets its contract. Assumes nothing.
-use mathlib.Core.Path.{_∙_, ap}
 use mir.Facts.{toZ-ofZ}
 use Rattle.fields.proofs.Values.{bits-some, value-small}
 use Rattle.walk_steps.proofs.Writing.{unwritten}
 use borrow.Author.Needs.{needs}
 use Rattle.walk_steps.proofs.put_number.Statement.{statement}
 use Rattle.walk_steps.proofs.put_number.Tie as tie
-use Rattle.walk_steps.proofs.put_number.Reads as reads
-use Rattle.walk_steps.proofs.put_number.Lts as lts
-use Rattle.fields.proofs.number.Reads as number-reads
-use Rattle.fields.proofs.value.Reads as value-reads
-use Rattle.walk_steps.proofs.put_row.Reads as put-row-reads
-use Rattle.walk_steps.proofs.wide.Reads as wide-reads
 
 value-requires : tie.Need-value-requires
 value-requires c κs = search needs

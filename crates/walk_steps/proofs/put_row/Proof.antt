@@ -8,8 +8,6 @@ use Rattle.walk_steps.proofs.Writing.{put-five, unwritten, written-row}
 use borrow.Author.Needs.{needs}
 use Rattle.walk_steps.proofs.put_row.Statement.{statement}
 use Rattle.walk_steps.proofs.put_row.Tie as tie
-use Rattle.walk_steps.proofs.put_row.Reads as reads
-use Rattle.walk_steps.proofs.put_row.Lts as lts
 
 mul-at : tie.Need-mul-at
 mul-at c = search needs

@@ -1,6 +1,6 @@
 -- `walk_steps::show` meets its contract. Assumes nothing.
 use Prim.Native.Nat.{_+_}
-use mathlib.Core.Path.{_≡_, sym, _∙_, ap}
+use mathlib.Core.Path.{sym, _∙_}
 use native.Mathlib.Omega.{arith}
 use mir.Facts.{toZ-pos}
 use mir.Syntax.{w64}
@@ -10,16 +10,6 @@ use Rattle.walk_steps.proofs.Steps.{shows-hole, shows-number, shows-nam
 use borrow.Author.Needs.{needs}
 use Rattle.walk_steps.proofs.show.Statement.{statement}
 use Rattle.walk_steps.proofs.show.Tie as tie
-use Rattle.walk_steps.proofs.show.Reads as reads
-use Rattle.walk_steps.proofs.show.Lts as lts
-use Rattle.fields.proofs.look_of.Reads as look-of-reads
-use Rattle.fields.proofs.value.Reads as value-reads
-use Rattle.setting.proofs.name.Reads as name-reads
-use Rattle.walk_steps.proofs.one_more.Reads as one-more-reads
-use Rattle.walk_steps.proofs.put_number.Reads as put-number-reads
-use Rattle.walk_steps.proofs.put_row.Reads as put-row-reads
-use Rattle.walk_steps.proofs.wide.Reads as wide-reads
-use Rattle.walk_steps.proofs.width_of.Reads as width-of-reads
 
 width-of-requires : tie.Need-width-of-requires
 width-of-requires c κs = search needs

@@ -4,9 +4,6 @@ use borrow.Author.Tests.{eq-eqb, ne-eqb}
 use borrow.Author.Needs.{needs}
 use Rattle.walk_steps.proofs.width_of.Statement.{statement}
 use Rattle.walk_steps.proofs.width_of.Tie as tie
-use Rattle.walk_steps.proofs.width_of.Reads as reads
-use Rattle.walk_steps.proofs.width_of.Lts as lts
-use Rattle.walk_steps.proofs.wide.Reads as wide-reads
 
 wide-requires : tie.Need-wide-requires
 wide-requires c κs = search needs

@@ -1,10 +1,10 @@
 -- The cycle of the walk: a table calls its constructor, a constructor its operands, those each operand, and an operand its table.
 -- The rows that are left fall. Assumes nothing.
-use Prim.Native.Nat.{ℕ, _<_, _+_, _-_, _*_, _≤_}
-use mathlib.Core.Path.{_≡_, refl, sym, ap, _∙_}
+use Prim.Native.Nat.{ℕ, _<_, _+_, _-_, _*_}
+use mathlib.Core.Path.{_≡_, sym, ap, _∙_}
 use native.Mathlib.Omega.{arith}
 use borrow.Author.Needs.{needs}
-use lib.ListN.{length, getD}
+use lib.ListN.{getD}
 use Rattle.format.specs.Numbers.{mostRows}
 use Rattle.format.specs.declared.Operand.{Operand}
 use Rattle.decoding_spec.specs.Walk.{startOf}

@@ -1,8 +1,6 @@
 use Rattle.whole_numbers.proofs.Words.{and-word}
 use Rattle.whole_numbers.proofs.and.Statement.{statement}
 use Rattle.whole_numbers.proofs.and.Tie as tie
-use Rattle.whole_numbers.proofs.and.Reads as reads
-use Rattle.whole_numbers.proofs.and.Lts as lts
 
 returns : tie.Need-returns
 returns c = and-word (c .args .a) (c .args .b) (c .fits .a .sfits) (c .fits .b .sfits)

@@ -3,7 +3,7 @@ use mathlib.Core.Bool.{true}
 use native.Mathlib.Omega.{arith}
 use borrow.Author.Needs.{needs}
 use lib.IntN.{pos}
-use lib.Signed.{mag, ltZ}
+use lib.Signed.{ltZ}
 use mir.Facts.{toZ-ofZ, fits-natAbs}
 use Rattle.whole_numbers.proofs.Products.{turned, distance-below, not-below}
 use Rattle.whole_numbers.proofs.magnitude.Statement.{statement}

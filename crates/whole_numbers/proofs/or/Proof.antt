@@ -1,8 +1,6 @@
 use Rattle.whole_numbers.proofs.Words.{or-word}
 use Rattle.whole_numbers.proofs.or.Statement.{statement}
 use Rattle.whole_numbers.proofs.or.Tie as tie
-use Rattle.whole_numbers.proofs.or.Reads as reads
-use Rattle.whole_numbers.proofs.or.Lts as lts
 
 returns : tie.Need-returns
 returns c = or-word (c .args .a) (c .args .b) (c .fits .a .sfits) (c .fits .b .sfits)

@@ -3,8 +3,6 @@ use Rattle.whole_numbers.proofs.Words.{right-word}
 use borrow.Author.Needs.{needs}
 use Rattle.whole_numbers.proofs.right.Statement.{statement}
 use Rattle.whole_numbers.proofs.right.Tie as tie
-use Rattle.whole_numbers.proofs.right.Reads as reads
-use Rattle.whole_numbers.proofs.right.Lts as lts
 
 cast-result : tie.Need-cast-result
 cast-result c = search needs

@@ -1,8 +1,6 @@
 use Rattle.whole_numbers.proofs.Words.{xor-word}
 use Rattle.whole_numbers.proofs.xor.Statement.{statement}
 use Rattle.whole_numbers.proofs.xor.Tie as tie
-use Rattle.whole_numbers.proofs.xor.Reads as reads
-use Rattle.whole_numbers.proofs.xor.Lts as lts
 
 returns : tie.Need-returns
 returns c = xor-word (c .args .a) (c .args .b) (c .fits .a .sfits) (c .fits .b .sfits)

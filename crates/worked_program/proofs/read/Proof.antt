@@ -3,12 +3,6 @@ use lib.Seq.{length-take-le}
 use borrow.Author.Needs.{needs}
 use Rattle.worked_program.proofs.read.Statement.{statement}
 use Rattle.worked_program.proofs.read.Tie as tie
-use Rattle.worked_program.proofs.read.Reads as reads
-use Rattle.worked_program.proofs.read.Lts as lts
-use Rattle.text_decoding.proofs.decode_text.Reads as decode-text-reads
-use Rattle.worked_program.proofs.line.Reads as line-reads
-use Rattle.worked_program.proofs.number.Reads as number-reads
-use Rattle.worked_program.proofs.rejected.Reads as rejected-reads
 
 line-requires : tie.Need-line-requires
 line-requires c κs = search needs
