@@ -14,7 +14,7 @@ use Rattle.format.specs.Tables.{rootOf, tableFirst, tableEnd}
 use Rattle.format.specs.declared.Layout.{Layout}
 use Rattle.format.proofs.Formation.{RulesHold, obeyed}
 use Rattle.format.proofs.Lists.{constructors-length, expressions-length, expression-here}
-use Rattle.format.proofs.Tables.{table-low, end-is, first-within, end-within}
+use Rattle.format.proofs.Tables.{end-is, first-within, end-within}
 use Rattle.tables.specs.Starts.{tableStarts}
 use Rattle.tables.proofs.FirstConstructors.{starts-length, start-at}
 use Rattle.tables.specs.declared.Table.{Table}
@@ -26,6 +26,7 @@ use Rattle.choosing_spec.specs.Table.{patternFrom}
 use Rattle.choosing_theorems.proofs.Taken.{taken-facts}
 use Rattle.decoding_spec.specs.State.{withTotal}
 use Rattle.decoding_spec.specs.Walk.{numberedFrom, choiceIn}
+use Rattle.decoding_theorems.proofs.Records.{root-low}
 use Rattle.setting.specs.Fixed.{totalPlace, gatheredPlace, startsPlace, fixedOf, layoutIn, expressionStart, settingIn, Fixed}
 use Rattle.setting.specs.Ranges.{RangeOf, chosenAmong}
 
@@ -107,19 +108,16 @@ pub taken-inside : (d : Description) (r : Table) (s : List ℕ) (c j : ℕ) → 
 taken-inside d r s c j e h = omega (arith, taken-facts (patternFrom d (r .first)) (r .count) s c j e .within)
 
 -- the root's range, where the tables' first constructors were gathered
-module _ (d : Description) (o : RulesHold d) (some : 1 ≤ length (d .constructors)) where
-  pub root-low : rootOf d < tables
-  root-low = table-low d o (length (d .constructors) - 1) (omega arith)
+module _ (d : Description) (o : RulesHold d) (some : 1 ≤ length (d .constructors)) (a : List ℕ) (starts : drop startsPlace a ≡ tableStarts d)
+    (n : ℕ) (e : n ≡ length (d .constructors)) where
+  first : getD a (startsPlace + rootOf d) 0 ≡ tableFirst d (rootOf d)
+  first = gathered-range d o (rootOf d) (root-low d o some) a starts .first
 
-  module _ (a : List ℕ) (starts : drop startsPlace a ≡ tableStarts d) (n : ℕ) (e : n ≡ length (d .constructors)) where
-    first : getD a (startsPlace + rootOf d) 0 ≡ tableFirst d (rootOf d)
-    first = gathered-range d o (rootOf d) root-low a starts .first
+  pub root-first-within : getD a (startsPlace + rootOf d) 0 ≤ n
+  root-first-within = omega (arith, first, first-within d o (rootOf d), end-within d o (rootOf d))
 
-    pub root-first-within : getD a (startsPlace + rootOf d) 0 ≤ n
-    root-first-within = omega (arith, first, first-within d o (rootOf d), end-within d o (rootOf d))
-
-    pub gathered-root : RangeOf d (rootOf d) (record { first = getD a (startsPlace + rootOf d) 0; count = n - getD a (startsPlace + rootOf d) 0 })
-    gathered-root = record { first = first; count = rw (first, root-end d o some, e) }
+  pub gathered-root : RangeOf d (rootOf d) (record { first = getD a (startsPlace + rootOf d) 0; count = n - getD a (startsPlace + rootOf d) 0 })
+  gathered-root = record { first = first; count = rw (first, root-end d o some, e) }
 
 -- the input's length
 pub total-in : (b a : List ℕ) → settingIn b a .total ≡ getD a totalPlace 0

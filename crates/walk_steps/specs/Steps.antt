@@ -39,10 +39,10 @@ pub record Ready (Own : Type 0) (b a s : List ℕ) (at : ℕ) (st : State) : Typ
   pub few : st .used ≤ mostRows
   pub own : Own
 
--- the rows afterwards
-abbrev pub rowsAfter : {A : Type 0} → (A → List SizedRow) → Result A → ℕ → List ℤ → List ℤ
-rowsAfter rows (done a l st) used old = written used (rows a) old
-rowsAfter rows (refused r) used old = old
+-- the rows that a step leaves
+abbrev pub rowsLeft : {A : Type 0} → (A → List SizedRow) → Result A → ℕ → List ℤ → List ℤ
+rowsLeft rows (done a l st) used old = written used (rows a) old
+rowsLeft rows (refused r) used old = old
 
 -- how far a done step has come, for the sums of the code
 abbrev pub Bounded : {A : Type 0} → (A → List SizedRow) → Result A → ℕ → ℕ → Type 0
@@ -51,7 +51,7 @@ Bounded rows (refused r) at used = Unit {0}
 
 pub record StepsTo {A : Type 0} (rows : A → List SizedRow) (result : Result A) (r : Walked) (at used : ℕ) (old new : List ℤ) : Type 0 where
   pub answer : r ≡ answerOf result
-  pub held : new ≡ rowsAfter rows result used old
+  pub held : new ≡ rowsLeft rows result used old
   pub bounded : Bounded rows result at used
 
 -- the same of a walk's answer

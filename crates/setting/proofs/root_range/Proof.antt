@@ -5,8 +5,9 @@ use lib.ListN.{length, drop}
 use Rattle.format.specs.Tables.{rootOf}
 use Rattle.format.proofs.Lists.{constructors-length}
 use Rattle.tables.specs.Starts.{tableStarts}
+use Rattle.decoding_theorems.proofs.Records.{root-low}
 use Rattle.setting.specs.Fixed.{startsPlace, settingIn}
-use Rattle.setting.proofs.Laws.{obeyed-in, some-in, root-low, root-first-within, gathered-root}
+use Rattle.setting.proofs.Laws.{obeyed-in, some-in, root-first-within, gathered-root}
 use borrow.Author.Needs.{needs}
 use Rattle.setting.proofs.root_range.Statement.{statement}
 use Rattle.setting.proofs.root_range.Tie as tie
