@@ -2,14 +2,14 @@
 use Prim.Native.Nat.{ℕ, zero, suc, _+_, _-_, _*_, _/_, _%_, _^_, _≤_, _<_}
 use mathlib.Core.Bool.{Bool, true, false, cond}
 use mathlib.Core.List.{List}
-use mathlib.Core.Path.{_≡_, refl, sym, _∙_}
+use mathlib.Core.Path.{_≡_, refl, sym, ap, _∙_}
 use native.Mathlib.Decide.{decLt}
 use native.Mathlib.Nat.{one-mul}
 use native.Mathlib.Omega.{arith}
 use borrow.Author.Tests.{eq-eqb, ne-eqb}
 use lib.Dec.{eqb, lit<}
 use lib.ListN.{getD}
-use lib.Pow.{pow-add, pow-mono, shl-exact}
+use lib.Pow.{shl-exact}
 use Rattle.bits.specs.Bits.{bit}
 use Rattle.bits.proofs.Digits.{low-bit, high-bit}
 use Rattle.format.specs.Rules.{bitsOf}
@@ -39,36 +39,24 @@ number-bit b h (suc n) k at l = go (number-bit b h n (k - 8) (suc at)) (decLt k 
         let q : (k - 8) % 8 ≡ k % 8 = omega arith in
         high-bit 8 (b at) (numberFrom b (suc at) n) k (h at) (omega arith) ∙ (r (omega arith) ∙ rw (p, q))
 
-number-small : (b : ℕ → ℕ) → ((i : ℕ) → b i < 256) → (n at : ℕ) → numberFrom b at n < 2 ^ (8 * n)
+pub four-bytes : (b : ℕ → ℕ) → b 0 + 256 * (b 1 + 256 * (b 2 + 256 * b 3)) ≡ numberFrom b 0 4
 unfolding numberFrom
-number-small b h zero at = omega arith
-number-small b h (suc n) at =
-    let e : 8 * suc n ≡ 8 + 8 * n = omega arith in
-    rw (e, pow-add 2 8 (8 * n)) (omega (arith, h at, number-small b h n (suc at)))
+four-bytes b = omega arith
 
--- four bytes at most
-pub number-narrow : (b : ℕ → ℕ) → ((i : ℕ) → b i < 256) → (n at : ℕ) → n ≤ 4 → numberFrom b at n < 2 ^ 32
-number-narrow b h n at l =
-    let m : 2 ^ (8 * n) ≤ 2 ^ 32 = pow-mono {i = 8 * n} {j = 32} (omega arith) in
-    omega (arith, number-small b h n at)
+-- the token's bytes where they stand, by order; where the width is a numeral the left side computes
+pub little-token : (f : Field) (s : List ℕ) (n : ℕ) → f .width ≡ n → f .order ≡ 0
+    → numberFrom (λ j. getD s j 0) 0 n ≡ tokenOf f s
+unfolding tokenOf tokenByte
+little-token f s n w e =
+    ap (λ m. numberFrom (λ j. getD s j 0) 0 m) (sym w)
+    ∙ ap (λ t. numberFrom (λ j. cond t (getD s j 0) (getD s (f .width - 1 - j) 0)) 0 (f .width)) (sym (eq-eqb (f .order) 0 e))
 
--- one byte more below
-pub number-more : (b : ℕ → ℕ) (j width : ℕ) → 1 ≤ j → j ≤ width
-    → b (j - 1) + 256 * numberFrom b j (width - j) ≡ numberFrom b (j - 1) (width - (j - 1))
-unfolding numberFrom
-number-more b zero width h l = absurd (omega arith)
-number-more b (suc i) width h l =
-    let e : suc i - 1 ≡ i = omega arith in
-    let d : width - i ≡ suc (width - suc i) = omega arith in
-    rw (e, d)
-
-pub little-byte : (f : Field) (s : List ℕ) (j : ℕ) → f .order ≡ 0 → getD s j 0 ≡ tokenByte f s j
-unfolding tokenByte
-little-byte f s j e = rw (eq-eqb (f .order) 0 e)
-
-pub big-byte : (f : Field) (s : List ℕ) (j : ℕ) → (f .order ≡ 0 → ⊥) → getD s (f .width - 1 - j) 0 ≡ tokenByte f s j
-unfolding tokenByte
-big-byte f s j e = rw (ne-eqb (f .order) 0 e)
+pub big-token : (f : Field) (s : List ℕ) (n : ℕ) → f .width ≡ n → (f .order ≡ 0 → ⊥)
+    → numberFrom (λ j. getD s (n - 1 - j) 0) 0 n ≡ tokenOf f s
+unfolding tokenOf tokenByte
+big-token f s n w e =
+    ap (λ m. numberFrom (λ j. getD s (m - 1 - j) 0) 0 m) (sym w)
+    ∙ ap (λ t. numberFrom (λ j. cond t (getD s j 0) (getD s (f .width - 1 - j) 0)) 0 (f .width)) (sym (ne-eqb (f .order) 0 e))
 
 pub from-code : (f : Field) (s : List ℕ) (c : ℕ) → f .source ≡ 0 → sourceOf f s c ≡ tokenOf f s
 unfolding sourceOf

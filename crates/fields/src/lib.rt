@@ -1,10 +1,10 @@
 // The value of a field, read by whole bytes, and how its look shows it.
 use format::Field;
 ghost use mathlib.Core.Path.{_≡_};
-ghost use Prim.Native.Nat.{_<_, _≤_, _/_, _%_, _^_};
+ghost use Prim.Native.Nat.{_+_, _*_, _<_, _≤_, _/_, _%_, _^_};
 ghost use lib.ListN.{length};
-ghost use Rattle.fields.specs.Value.{Readable, tokenByte, valueOf};
-ghost use Rattle.fields.specs.Token.{tokenOf};
+ghost use Rattle.fields.specs.Value.{Readable, valueOf};
+ghost use Rattle.fields.specs.Token.{Joinable, tokenOf};
 ghost use Rattle.fields.specs.Look.{lookOf, numberOf};
 
 // How a value is shown: as a number, with a sign or without, in a base; or by its name.
@@ -41,41 +41,59 @@ pub fn look_of(look: u8) -> Look
     }
 }
 
-// Byte j of the field's token, byte 0 the lowest.
-fn byte(field: Field, code: &[u8], j: u8) -> u64
-    requires { ⌜ (field .width ≤ length (now code)) × (j < field .width) ⌝ }
-    ensures { λ r. ⌜ (r ≡ tokenByte field (now (code .entry)) j) × (r < 256) ⌝ }
-{
-    let k = if field.order == 0 {
-        j
-    } else {
-        field.width - 1 - j
-    };
-    wide(code[k as usize])
-}
-
 fn wide(x: u8) -> u64
     ensures { λ r. ⌜ (r ≡ x) × (r < 256) ⌝ }
 {
     x as u64
 }
 
-// The field's token as a number, from its highest byte down.
-fn token(field: Field, code: &[u8]) -> u64
-    requires { ⌜ (field .width ≤ 4) × (field .width ≤ length (now code)) ⌝ }
+// Four bytes as a number, the lowest first.
+fn joined(a: u8, b: u8, c: u8, d: u8) -> u64
+    ensures { λ r. ⌜ r ≡ a + 256 * (b + 256 * (c + 256 * d)) ⌝ }
+{
+    wide(a) + 256 * (wide(b) + 256 * (wide(c) + 256 * wide(d)))
+}
+
+// The token's number, its first byte the lowest. Written out by width: bytes that are joined where they stand are one load.
+fn little(field: Field, code: &[u8]) -> u64
+    requires { ⌜ Joinable field (now code) × (field .order ≡ 0) ⌝ }
     ensures { λ r. ⌜ r ≡ tokenOf field (now (code .entry)) ⌝ }
 {
-    let mut v: u64 = 0;
-    let mut j = field.width;
-    while 0 < j {
-        j -= 1;
-        v = byte(field, code, j) + 256 * v;
+    let width = field.width;
+    match width {
+        1 => joined(code[0], 0, 0, 0),
+        2 => joined(code[0], code[1], 0, 0),
+        3 => joined(code[0], code[1], code[2], 0),
+        _ => joined(code[0], code[1], code[2], code[3]),
     }
-    v
+}
+
+// The token's number, its first byte the highest.
+fn big(field: Field, code: &[u8]) -> u64
+    requires { ⌜ Joinable field (now code) × (field .order ≡ 0 → ⊥) ⌝ }
+    ensures { λ r. ⌜ r ≡ tokenOf field (now (code .entry)) ⌝ }
+{
+    let width = field.width;
+    match width {
+        1 => joined(code[0], 0, 0, 0),
+        2 => joined(code[1], code[0], 0, 0),
+        3 => joined(code[2], code[1], code[0], 0),
+        _ => joined(code[3], code[2], code[1], code[0]),
+    }
+}
+
+fn token(field: Field, code: &[u8]) -> u64
+    requires { ⌜ Joinable field (now code) ⌝ }
+    ensures { λ r. ⌜ r ≡ tokenOf field (now (code .entry)) ⌝ }
+{
+    if field.order == 0 {
+        return little(field, code);
+    }
+    big(field, code)
 }
 
 // So many bits of a number, from bit `low` on.
-fn cut(whole: u64, low: u8, bits: u8) -> u64
+pub fn cut(whole: u64, low: u8, bits: u8) -> u64
     requires { ⌜ (low < 64) × (bits < 64) ⌝ }
     ensures { λ r. ⌜ r ≡ whole / 2 ^ low % 2 ^ bits ⌝ }
 {

@@ -1,7 +1,8 @@
 //! Times the proved library: every request beside the reference, sweeps and
 //! decodings beside the simplest fast scan, expressions beside a plain
-//! evaluation, and AVR code beside other disassemblers. `bench details` says more about some requests, in processor
-//! time.
+//! evaluation, the field read beside the one that it replaced and a plain one,
+//! and AVR code beside other disassemblers. `bench details` says more about some
+//! requests, in processor time; `bench fields` times the field read alone.
 //!
 //! `bench one` makes exactly one proved check of the longest description,
 //! for counting instructions; `bench one-ask` one question to a table of 512
@@ -18,6 +19,7 @@ mod choosing;
 mod clock;
 mod decoding;
 mod expressions;
+mod field_reads;
 mod processes;
 mod scan;
 mod speed;
@@ -55,6 +57,7 @@ fn main() {
     match std::env::args().nth(1).as_deref() {
         None => overview(),
         Some("details") => details(),
+        Some("fields") => field_reads::print(),
         Some("one") => print_answer(dookerand::check(black_box(&bytes(&longest())))),
         Some("one-ask") => print_answer(choosing::one_ask()),
         Some("one-clash") => print_answer(choosing::one_clash()),
@@ -66,7 +69,7 @@ fn main() {
         Some("one-avr-sweep") => print_answer(sweep::one_avr_sweep()),
         Some("one-decode-check") => print_answer(decoding::one_check()),
         Some(_) => {
-            eprintln!("usage: bench [details | {}]", ONES.join(" | "));
+            eprintln!("usage: bench [details | fields | {}]", ONES.join(" | "));
             std::process::exit(2);
         }
     }
@@ -76,6 +79,7 @@ fn overview() {
     table::print();
     against_scan::print();
     expressions::print();
+    field_reads::print();
     speed::print();
     let cores = std::thread::available_parallelism().map_or(1, usize::from);
     println!("{cores} cores; every time is the median of rounds in which the jobs take turns. CPU is the");

@@ -8,6 +8,7 @@ mod check;
 mod choosing;
 mod computed;
 mod decoding;
+mod fields;
 mod instructions;
 mod lent;
 mod lines;
@@ -39,6 +40,7 @@ fn main() {
     timed("ask and clash", || choosing::compare(&mut Rng::new(seed)));
     timed("tree check", || trees::compare(&mut Rng::new(seed)));
     timed("decode", || decoding::compare(&mut Rng::new(seed)));
+    timed("fields", || fields::compare(&mut Rng::new(seed)));
     timed("text", || text::compare(&mut Rng::new(seed)));
     timed("sweep", || sweep::compare(&mut Rng::new(seed)));
     timed("list", || lines::compare(&mut Rng::new(seed)));

@@ -15,6 +15,7 @@ mod mutate;
 mod operators;
 mod patterns;
 mod planted;
+mod ranges;
 mod rng;
 mod row_counts;
 mod rules;
@@ -42,6 +43,7 @@ pub use operators::{
     TABLE_EXPRESSIONS,
 };
 pub use planted::{planted, planted_stream};
+pub use ranges::{all_fields, field_table, FIELD_INSTRUCTION, TABLE_FIELDS};
 pub use rng::Rng;
 pub use row_counts::with_rows;
 pub use rules::{rules, Rule};

@@ -16,7 +16,10 @@ sub-bits : tie.Need-sub-bits
 sub-bits c = search needs
 
 token-requires : tie.Need-token-requires
-token-requires c κs = (search needs, c .before .before .before .before .before .pre .1 (c .if1 .taken))
+token-requires c κs =
+    let s = c .before .before .before .before .before in
+    let r = s .pre .0 in
+    record { one = omega (arith, r .some, r .within); four = r .narrow; present = s .pre .1 (c .if1 .taken) }
 
 cut-requires : tie.Need-cut-requires
 cut-requires c κs = search needs

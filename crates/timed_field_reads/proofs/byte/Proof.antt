@@ -1,13 +1,13 @@
 use mathlib.Core.Logic.{⊎-elim}
 use mathlib.Core.Path.{_∙_}
 use native.Mathlib.Omega.{arith}
-use Rattle.fields.proofs.Tokens.{little-byte, big-byte}
+use Rattle.timed_field_reads.proofs.ByBytes.{little-byte, big-byte}
 use borrow.Author.Needs.{needs}
-use Rattle.fields.proofs.byte.Statement.{statement}
-use Rattle.fields.proofs.byte.Tie as tie
-use Rattle.fields.proofs.byte.Reads as reads
-use Rattle.fields.proofs.byte.Lts as lts
-use Rattle.fields.proofs.wide.Reads as wide-reads
+use Rattle.timed_field_reads.proofs.byte.Statement.{statement}
+use Rattle.timed_field_reads.proofs.byte.Tie as tie
+use Rattle.timed_field_reads.proofs.byte.Reads as reads
+use Rattle.timed_field_reads.proofs.byte.Lts as lts
+use Rattle.timed_field_reads.proofs.wide.Reads as wide-reads
 
 sub-k : tie.Need-sub-k
 sub-k c = search needs

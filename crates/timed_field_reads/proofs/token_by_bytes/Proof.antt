@@ -1,14 +1,15 @@
 use Prim.Native.Nat.{_-_, _^_, _≤_, _<_}
 use mathlib.Core.Path.{_≡_, _∙_}
 use native.Mathlib.Omega.{arith}
 use Rattle.fields.specs.Value.{tokenByte}
 use Rattle.fields.specs.Token.{numberFrom, tokenOf}
-use Rattle.fields.proofs.Tokens.{number-narrow, number-more, token-byte}
-use Rattle.fields.proofs.token.Statement.{statement}
-use Rattle.fields.proofs.token.Tie as tie
-use Rattle.fields.proofs.token.Reads as reads
-use Rattle.fields.proofs.token.Lts as lts
-use Rattle.fields.proofs.byte.Reads as byte-reads
+use Rattle.fields.proofs.Tokens.{token-byte}
+use Rattle.timed_field_reads.proofs.ByBytes.{number-narrow, number-more}
+use Rattle.timed_field_reads.proofs.token_by_bytes.Statement.{statement}
+use Rattle.timed_field_reads.proofs.token_by_bytes.Tie as tie
+use Rattle.timed_field_reads.proofs.token_by_bytes.Reads as reads
+use Rattle.timed_field_reads.proofs.token_by_bytes.Lts as lts
+use Rattle.timed_field_reads.proofs.byte.Reads as byte-reads
 
 abbrev Inv-loop : tie.InvT-loop
 Inv-loop field code v₀ j₀ v j = (j ≤ field .width) × (v ≡ numberFrom (tokenByte field code) j (field .width - j))
@@ -62,8 +63,8 @@ returns c =
     let w : s .args .field .width - 0 ≡ s .args .field .width = omega arith in
     rw z at (c .before .loop .inv .1) ∙ rw w
 
-pub token-spec : {M : Type 1} → statement M
-token-spec =
+pub token-by-bytes-spec : {M : Type 1} → statement M
+token-by-bytes-spec =
     tie.close
     (tie.spec
     Inv-loop

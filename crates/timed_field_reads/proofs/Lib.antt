@@ -1,0 +1,3 @@
+-- Laws of field reads alone.
+pub mod Reading
+pub mod ByBytes

@@ -1,0 +1,2 @@
+-- A field read alone.
+pub mod Read
