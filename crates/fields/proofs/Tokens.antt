@@ -1,5 +1,5 @@
 -- A field is read by whole bytes and its range cut out: that is its value, bit by bit.
-use Prim.Native.Nat.{ℕ, zero, suc, _+_, _-_, _*_, _/_, _%_, _^_, _≤_, _<_}
+use Prim.Native.Nat.{ℕ, zero, suc, _+_, _-_, _*_, _/_, _%_, _^_, _<_}
 use mathlib.Core.Bool.{Bool, true, false, cond}
 use mathlib.Core.List.{List}
 use mathlib.Core.Path.{_≡_, refl, sym, ap, _∙_}
@@ -58,11 +58,11 @@ big-token f s n w e =
     ap (λ m. numberFrom (λ j. getD s (m - 1 - j) 0) 0 m) (sym w)
     ∙ ap (λ t. numberFrom (λ j. cond t (getD s j 0) (getD s (f .width - 1 - j) 0)) 0 (f .width)) (sym (ne-eqb (f .order) 0 e))
 
-pub from-code : (f : Field) (s : List ℕ) (c : ℕ) → f .source ≡ 0 → sourceOf f s c ≡ tokenOf f s
+from-code : (f : Field) (s : List ℕ) (c : ℕ) → f .source ≡ 0 → sourceOf f s c ≡ tokenOf f s
 unfolding sourceOf
 from-code f s c e = rw (eq-eqb (f .source) 0 e)
 
-pub from-context : (f : Field) (s : List ℕ) (c : ℕ) → (f .source ≡ 0 → ⊥) → sourceOf f s c ≡ c
+from-context : (f : Field) (s : List ℕ) (c : ℕ) → (f .source ≡ 0 → ⊥) → sourceOf f s c ≡ c
 unfolding sourceOf
 from-context f s c e = rw (ne-eqb (f .source) 0 e)
 
@@ -91,3 +91,10 @@ module _ (f : Field) (s : List ℕ) (bytes : (i : ℕ) → getD s i 0 < 256) whe
   cut-is-value c r =
       sym (bits-cut (bitsOf f) (f .low) (sourceOf f s c))
       ∙ bits-same (bitsOf f) _ _ (λ i h. source-bit c (f .low + i) (omega (arith, r .some, r .within)))
+
+  -- of the instruction, and of the context
+  pub token-value : (c : ℕ) → Readable f → f .source ≡ 0 → tokenOf f s / 2 ^ f .low % 2 ^ bitsOf f ≡ valueOf f s c
+  token-value c r e = rw (from-code f s c e) at (cut-is-value c r)
+
+  pub context-value : (c : ℕ) → Readable f → (f .source ≡ 0 → ⊥) → c / 2 ^ f .low % 2 ^ bitsOf f ≡ valueOf f s c
+  context-value c r e = rw (from-context f s c e) at (cut-is-value c r)

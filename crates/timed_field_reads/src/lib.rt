@@ -8,6 +8,7 @@ ghost use Rattle.fields.specs.Value.{Readable, tokenByte, valueOf};
 ghost use Rattle.fields.specs.Token.{tokenOf};
 ghost use Rattle.timed_field_reads.specs.Read.{canRead, fieldValue, recordValue};
 
+// No value: a field has at most 32 bits.
 const UNREAD: u64 = 18446744073709551615;
 
 fn can_read(field: Field, code: &[u8]) -> bool

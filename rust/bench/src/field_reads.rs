@@ -7,6 +7,7 @@ use std::slice;
 use generate::Rng;
 use reference::Field;
 
+use crate::clock::Time;
 use crate::timing::medians_of;
 
 /// Reads of a round, each at another place of the code.
@@ -53,28 +54,12 @@ mod c {
 const READERS: [Read; 3] = [c::timed_field_read, c::timed_field_read_by_bytes, plain];
 
 pub fn print() {
-    let rng = &mut Rng::new(1);
-    let code: Vec<u8> = (0..READS + usize::from(WIDEST))
-        .map(|_| rng.byte())
-        .collect();
     let tokens: Vec<(u8, u8)> = (1..=WIDEST)
         .flat_map(|width| [Field::LITTLE, Field::BIG].map(|order| (width, order)))
         .collect();
-    let records = tokens
-        .iter()
-        .map(|&(width, order)| [Field::INSTRUCTION, width, order, 1, 8 * width - 2, 0, 0, 0]);
-    let jobs: Vec<_> = records
-        .map(|record| {
-            let sum = all(plain, &record, &code);
-            READERS.map(|read| {
-                let code = &code;
-                move |_: usize| assert_eq!(all(black_box(read), &record, code), sum)
-            })
-        })
-        .collect();
     println!("Fields read, by one call each: CPU, millions a second");
     println!("width  order       proved   by a loop       plain    proved to loop    to plain");
-    for ((width, order), times) in tokens.into_iter().zip(medians_of(&jobs)) {
+    for (&(width, order), times) in tokens.iter().zip(times(&tokens)) {
         let [proved, by_loop, plain] = times.map(|time| READS as f64 / time.cpu);
         let order = match order {
             Field::LITTLE => "little",
@@ -92,6 +77,25 @@ pub fn print() {
         "proved read that this one replaced; plain is the simplest read in Rust. All test the"
     );
     println!("record and the code's length first.");
+}
+
+/// Of all reads of a round, by each reader, for tokens of these widths and
+/// orders.
+fn times(tokens: &[(u8, u8)]) -> Vec<[Time; 3]> {
+    let rng = &mut Rng::new(1);
+    let code: Vec<u8> = (0..READS + usize::from(WIDEST))
+        .map(|_| rng.byte())
+        .collect();
+    let jobs: Vec<_> = tokens
+        .iter()
+        .map(|&(width, order)| {
+            let record = [Field::INSTRUCTION, width, order, 1, 8 * width - 2, 0, 0, 0];
+            let code = &code;
+            let sum = all(plain, &record, code);
+            READERS.map(|read| move |_: usize| assert_eq!(all(black_box(read), &record, code), sum))
+        })
+        .collect();
+    medians_of(&jobs)
 }
 
 /// The sum of what is read at each place.
@@ -127,7 +131,7 @@ unsafe extern "C" fn plain(
     // SAFETY: as the caller says.
     let [record, code] = [(record, record_len), (code, code_len)]
         .map(|(start, length)| unsafe { slice::from_raw_parts(start, length) });
-    let &[source, width, order, low, high, ..] = record else {
+    let Some(&[source, width, order, low, high, ..]) = record.first_chunk::<8>() else {
         return UNREAD;
     };
     let absent = source == Field::INSTRUCTION && code.len() < usize::from(width);
@@ -135,14 +139,18 @@ unsafe extern "C" fn plain(
         return UNREAD;
     }
     let whole: u64 = match (source, order, width) {
-        (Field::CONTEXT, ..) => context.into(),
-        (_, _, 1) => code[0].into(),
-        (_, Field::LITTLE, 2) => u16::from_le_bytes([code[0], code[1]]).into(),
-        (_, Field::LITTLE, 3) => u32::from_le_bytes([code[0], code[1], code[2], 0]).into(),
-        (_, Field::LITTLE, _) => u32::from_le_bytes([code[0], code[1], code[2], code[3]]).into(),
-        (_, _, 2) => u16::from_be_bytes([code[0], code[1]]).into(),
-        (_, _, 3) => u32::from_be_bytes([0, code[0], code[1], code[2]]).into(),
-        (_, _, _) => u32::from_be_bytes([code[0], code[1], code[2], code[3]]).into(),
+        (Field::INSTRUCTION, _, 1) => code[0].into(),
+        (Field::INSTRUCTION, Field::LITTLE, 2) => u16::from_le_bytes([code[0], code[1]]).into(),
+        (Field::INSTRUCTION, Field::LITTLE, 3) => {
+            u32::from_le_bytes([code[0], code[1], code[2], 0]).into()
+        }
+        (Field::INSTRUCTION, Field::LITTLE, _) => {
+            u32::from_le_bytes([code[0], code[1], code[2], code[3]]).into()
+        }
+        (Field::INSTRUCTION, _, 2) => u16::from_be_bytes([code[0], code[1]]).into(),
+        (Field::INSTRUCTION, _, 3) => u32::from_be_bytes([0, code[0], code[1], code[2]]).into(),
+        (Field::INSTRUCTION, ..) => u32::from_be_bytes([code[0], code[1], code[2], code[3]]).into(),
+        _ => context.into(),
     };
     whole >> low & ((1 << (high - low + 1)) - 1)
 }

@@ -7,9 +7,6 @@ use Rattle.fields.specs.Token.{numberFrom}
 use Rattle.fields.proofs.Tokens.{four-bytes, big-token}
 use Rattle.fields.proofs.big.Statement.{statement}
 use Rattle.fields.proofs.big.Tie as tie
-use Rattle.fields.proofs.big.Reads as reads
-use Rattle.fields.proofs.big.Lts as lts
-use Rattle.fields.proofs.joined.Reads as joined-reads
 
 shared-slice-read-joined : tie.Need-shared-slice-read-joined
 shared-slice-read-joined c = search needs

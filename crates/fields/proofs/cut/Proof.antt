@@ -3,8 +3,6 @@ use Rattle.fields.proofs.Tokens.{one-shifted}
 use borrow.Author.Needs.{needs}
 use Rattle.fields.proofs.cut.Statement.{statement}
 use Rattle.fields.proofs.cut.Tie as tie
-use Rattle.fields.proofs.cut.Reads as reads
-use Rattle.fields.proofs.cut.Lts as lts
 
 shr-result : tie.Need-shr-result
 shr-result c = search needs

@@ -6,9 +6,6 @@ use Rattle.fields.specs.Token.{numberFrom}
 use Rattle.fields.proofs.Tokens.{four-bytes, little-token}
 use Rattle.fields.proofs.little.Statement.{statement}
 use Rattle.fields.proofs.little.Tie as tie
-use Rattle.fields.proofs.little.Reads as reads
-use Rattle.fields.proofs.little.Lts as lts
-use Rattle.fields.proofs.joined.Reads as joined-reads
 
 shared-slice-read-joined : tie.Need-shared-slice-read-joined
 shared-slice-read-joined c = search needs

@@ -2,8 +2,6 @@ use borrow.Author.Tests.{ne-eqb}
 use Rattle.fields.specs.Look.{lookOf}
 use Rattle.fields.proofs.look_of.Statement.{statement}
 use Rattle.fields.proofs.look_of.Tie as tie
-use Rattle.fields.proofs.look_of.Reads as reads
-use Rattle.fields.proofs.look_of.Lts as lts
 
 returns : tie.Need-returns
 unfolding lookOf

@@ -4,8 +4,6 @@ use Rattle.fields.proofs.Signs.{value-fits, number-is, less-power, less
 use borrow.Author.Needs.{needs}
 use Rattle.fields.proofs.number.Statement.{statement}
 use Rattle.fields.proofs.number.Tie as tie
-use Rattle.fields.proofs.number.Reads as reads
-use Rattle.fields.proofs.number.Lts as lts
 
 cast-v : tie.Need-cast-v
 cast-v c = record { sfits = value-fits (c .args .bits) (c .args .value) (c .pre .1) (c .pre .2) }

@@ -5,9 +5,6 @@ use Rattle.timed_field_reads.proofs.ByBytes.{little-byte, big-byte}
 use borrow.Author.Needs.{needs}
 use Rattle.timed_field_reads.proofs.byte.Statement.{statement}
 use Rattle.timed_field_reads.proofs.byte.Tie as tie
-use Rattle.timed_field_reads.proofs.byte.Reads as reads
-use Rattle.timed_field_reads.proofs.byte.Lts as lts
-use Rattle.timed_field_reads.proofs.wide.Reads as wide-reads
 
 sub-k : tie.Need-sub-k
 sub-k c = search needs

@@ -4,10 +4,6 @@ use Rattle.timed_field_reads.specs.Read.{fieldValue}
 use Rattle.timed_field_reads.proofs.Reading.{can-be-read}
 use Rattle.timed_field_reads.proofs.read.Statement.{statement}
 use Rattle.timed_field_reads.proofs.read.Tie as tie
-use Rattle.timed_field_reads.proofs.read.Reads as reads
-use Rattle.timed_field_reads.proofs.read.Lts as lts
-use Rattle.fields.proofs.value.Reads as value-reads
-use Rattle.timed_field_reads.proofs.can_read.Reads as can-read-reads
 
 can-read-requires : tie.Need-can-read-requires
 can-read-requires c κs = search needs

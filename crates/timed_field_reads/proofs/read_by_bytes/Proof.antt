@@ -4,10 +4,6 @@ use Rattle.timed_field_reads.specs.Read.{fieldValue}
 use Rattle.timed_field_reads.proofs.Reading.{can-be-read}
 use Rattle.timed_field_reads.proofs.read_by_bytes.Statement.{statement}
 use Rattle.timed_field_reads.proofs.read_by_bytes.Tie as tie
-use Rattle.timed_field_reads.proofs.read_by_bytes.Reads as reads
-use Rattle.timed_field_reads.proofs.read_by_bytes.Lts as lts
-use Rattle.timed_field_reads.proofs.can_read.Reads as can-read-reads
-use Rattle.timed_field_reads.proofs.value_by_bytes.Reads as value-by-bytes-reads
 
 can-read-requires : tie.Need-can-read-requires
 can-read-requires c κs = search needs

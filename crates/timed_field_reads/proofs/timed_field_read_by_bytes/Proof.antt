@@ -1,13 +1,8 @@
-use mathlib.Core.Path.{ap, _∙_}
+use mathlib.Core.Path.{_∙_}
 use borrow.Author.Needs.{needs}
-use borrow.Author.Tests.{le-leb, lt-leb}
-use Rattle.timed_field_reads.specs.Read.{fieldValue, recordValue}
+use Rattle.timed_field_reads.proofs.Reading.{whole-record, cut-record}
 use Rattle.timed_field_reads.proofs.timed_field_read_by_bytes.Statement.{statement}
 use Rattle.timed_field_reads.proofs.timed_field_read_by_bytes.Tie as tie
-use Rattle.timed_field_reads.proofs.timed_field_read_by_bytes.Reads as reads
-use Rattle.timed_field_reads.proofs.timed_field_read_by_bytes.Lts as lts
-use Rattle.format.proofs.Cursor.field.Reads as field-reads
-use Rattle.timed_field_reads.proofs.read_by_bytes.Reads as read-by-bytes-reads
 
 cast-if1 : tie.Need-cast-if1
 cast-if1 c = search needs
@@ -19,16 +14,17 @@ read-by-bytes-requires : tie.Need-read-by-bytes-requires
 read-by-bytes-requires c κs = search needs
 
 returns : tie.Need-returns
-unfolding recordValue
 returns c =
     let tested = c .before .before in
     let s = tested .before .before .before in
-    rw (le-leb 8 _ (tested .if1 .taken))
-    (c .read-by-bytes .ensures ∙ ap (λ r. fieldValue (r .field) (s .args .context) (s .args .code .now)) (c .before .field .ensures))
+    c .read-by-bytes .ensures
+    ∙ whole-record (s .args .bytes .now) (s .args .context) (s .args .code .now) (c .before .field .result) (tested .if1 .taken)
+    (c .before .field .ensures)
 
 returns-2 : tie.Need-returns-2
-unfolding recordValue
-returns-2 c = rw (lt-leb 8 _ (c .if1 .left))
+returns-2 c =
+    let s = c .before .before .before in
+    cut-record (s .args .bytes .now) (s .args .context) (s .args .code .now) (c .if1 .left)
 
 pub timed-field-read-by-bytes-spec : {M : Type 1} → statement M
 timed-field-read-by-bytes-spec =

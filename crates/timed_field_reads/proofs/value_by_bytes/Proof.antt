@@ -1,13 +1,8 @@
 use native.Mathlib.Omega.{arith}
 use borrow.Author.Needs.{needs}
-use Rattle.fields.proofs.Tokens.{from-code, cut-is-value}
+use Rattle.fields.proofs.Tokens.{token-value}
 use Rattle.timed_field_reads.proofs.value_by_bytes.Statement.{statement}
 use Rattle.timed_field_reads.proofs.value_by_bytes.Tie as tie
-use Rattle.timed_field_reads.proofs.value_by_bytes.Reads as reads
-use Rattle.timed_field_reads.proofs.value_by_bytes.Lts as lts
-use Rattle.fields.proofs.cut.Reads as cut-reads
-use Rattle.fields.proofs.value.Reads as value-reads
-use Rattle.timed_field_reads.proofs.token_by_bytes.Reads as token-by-bytes-reads
 
 add-bits : tie.Need-add-bits
 add-bits c = search needs
@@ -26,10 +21,9 @@ returns c =
     let tested = c .before .before .before .before in
     let known = tested .before .before in
     let s = known .before in
-    let f = s .args .field in
-    let code = s .args .code .now in
-    rw (c .cut .ensures, c .before .token-by-bytes .ensures, ← from-code f code (s .args .context) (tested .if1 .taken))
-    (cut-is-value f code (λ i. omega (arith, known .shared-slice-known .given i)) (s .args .context) (s .pre .0))
+    rw (c .cut .ensures, c .before .token-by-bytes .ensures)
+    (token-value (s .args .field) (s .args .code .now) (λ i. omega (arith, known .shared-slice-known .given i)) (s .args .context) (s .pre .0)
+    (tested .if1 .taken))
 
 value-requires : tie.Need-value-requires
 value-requires c κs = search needs
