@@ -32,8 +32,9 @@ enum dookerand_answer {
     DOOKERAND_NO_ROOM = 9,           /* what is lent is too short */
     DOOKERAND_TEXT_TOO_LONG = 10,    /* the text is longer than 256 bytes */
     DOOKERAND_BAD_TREE = 11,         /* the tree is not well formed */
-    DOOKERAND_NO_TABLE = 12,         /* no constructor has this table */
-    DOOKERAND_OUTSIDE = 13           /* a computed value is outside signed 64 bits */
+    DOOKERAND_NO_TABLE = 12,         /* no constructor has this table, or the alignment is not 1, 2, 4 or 8 */
+    DOOKERAND_OUTSIDE = 13,          /* a computed value is outside signed 64 bits */
+    DOOKERAND_NO_MULTIPLE = 14       /* a sweep's place is no multiple of the alignment; in its rows alone */
 };
 
 /* The first number of a row of dookerand_decode. */
@@ -98,25 +99,30 @@ uint32_t dookerand_text(const uint8_t *description, size_t description_len, uint
                         const uint8_t *code, size_t code_len, uint8_t *text, size_t text_len, uint64_t values[4]);
 
 /* Sweeps the code from byte 0 on, which has this address, to rows of four numbers each: start, length, answer, root
- * constructor. An instruction's address is that of byte 0 plus its start, above 2^32 too. One that is refused by answers
- * 3 to 8 or 13 is a gap: length 1, that answer, constructor 65,535. `rows_len` counts numbers; a rest below four is no
- * row. `rows` overlaps no other slice. The rows stand from rows[0] on, and nothing is written behind them. 0: the end,
- * rows written, next byte; the end is 0 where the code is used up, 1 where the rows are full, 2 where the next
- * instruction is short, tested in this order. 1: section, record, and nothing is written. */
+ * constructor. A place's address is that of byte 0 plus the place, above 2^32 too. Instructions are looked for where it
+ * is a multiple of `alignment`, which is 1, 2, 4 or 8. One that is refused by answers 3 to 8 or 13 is a gap with that
+ * answer; a place that is no multiple is a gap with answer 14. A gap has constructor 65,535 and is as long as it is to
+ * the next multiple after its start or to the code's end, whichever is first. An instruction is not stretched.
+ * `rows_len` counts numbers; a rest below four is no row. `rows` overlaps no other slice. The rows stand from rows[0]
+ * on, and nothing is written behind them. 0: the end, rows written, next byte; the end is 0 where the code is used up,
+ * 1 where the rows are full, 2 where the instruction at a multiple is short, tested in this order. 1: section, record.
+ * 12: the alignment. Neither writes rows. */
 uint32_t dookerand_sweep(const uint8_t *description, size_t description_len, uint32_t context, uint32_t address,
-                         const uint8_t *code, size_t code_len, int64_t *rows, size_t rows_len, uint64_t values[4]);
+                         uint32_t alignment, const uint8_t *code, size_t code_len, int64_t *rows, size_t rows_len,
+                         uint64_t values[4]);
 
-/* Lists the code, whose byte 0 has this address, from byte `from` on as lines: the byte's address in lower-case hex,
- * eight digits or as many as it needs, ": ", then the instruction's text, ".long" for a text of more than 256 bytes,
- * ".short" for an instruction that is cut off by the code's end, after which nothing follows, or ".byte 0x" and two
- * digits for a byte that answers 3 to 8 or 13 are given for; and a line feed. `text_len` counts bytes, 275 always
- * suffice for a line, and `text` overlaps no other slice. As many whole lines are written as fit, from text[0] on, and
- * nothing behind them. 0: bytes written, lines written, next place, end; the end is 1 where the line at the next place
- * does not fit, and 0 where no line is left: then the next place is the code's length, or `from` where that is not below
- * it. 1: section, record, and nothing is written. */
+/* Lists the code, whose byte 0 has this address, from byte `from` on, a multiple or not, as lines: the byte's address
+ * in lower-case hex, eight digits or as many as it needs, ": ", then the instruction's text, ".long" for a text of more
+ * than 256 bytes, ".short" for an instruction that is cut off by the code's end, after which nothing follows, or for a
+ * gap, which is as in a sweep with this alignment, ".byte " and all its bytes, each 0x and two digits, with ", "
+ * between them; and a line feed. `text_len` counts bytes, 275 always suffice for a line, and `text` overlaps no other
+ * slice. As many whole lines are written as fit, from text[0] on, and nothing behind them. 0: bytes written, lines
+ * written, next place, end; the end is 1 where the line at the next place does not fit, and 0 where no line is left:
+ * then the next place is the code's length, or `from` where that is not below it. 1: section, record. 12: the
+ * alignment. Neither writes text. */
 uint32_t dookerand_list(const uint8_t *description, size_t description_len, uint32_t context, uint32_t address,
-                        const uint8_t *code, size_t code_len, uint64_t from, uint8_t *text, size_t text_len,
-                        uint64_t values[4]);
+                        uint32_t alignment, const uint8_t *code, size_t code_len, uint64_t from, uint8_t *text,
+                        size_t text_len, uint64_t values[4]);
 
 #ifdef __cplusplus
 }

@@ -238,15 +238,16 @@ pub extern "C" fn dookerand_sweep(
     desc: &[u8],
     context: u32,
     address: u32,
+    alignment: u32,
     code: &[u8],
     rows: &mut [i64],
     values: &mut [u64; 4],
 ) -> u32
-    ensures { λ r. ⌜ r ≡ sweeping.numberOf (sweepOf (now (desc .entry)) context address (now (code .entry)) (length (now (rows .entry)))) ⌝ }
-    ensures { λ _. ⌜ now (values .exit) ≡ sweeping.valuesOf (sweepOf (now (desc .entry)) context address (now (code .entry)) (length (now (rows .entry)))) ⌝ }
-    ensures { λ _. ⌜ now (rows .exit) ≡ bufferAfter (now (desc .entry)) context address (now (code .entry)) (now (rows .entry)) ⌝ }
+    ensures { λ r. ⌜ r ≡ sweeping.numberOf (sweepOf (now (desc .entry)) context address alignment (now (code .entry)) (length (now (rows .entry)))) ⌝ }
+    ensures { λ _. ⌜ now (values .exit) ≡ sweeping.valuesOf (sweepOf (now (desc .entry)) context address alignment (now (code .entry)) (length (now (rows .entry)))) ⌝ }
+    ensures { λ _. ⌜ now (rows .exit) ≡ bufferAfter (now (desc .entry)) context address alignment (now (code .entry)) (now (rows .entry)) ⌝ }
 {
-    let swept = sweep::sweep(desc, context, address, code, rows);
+    let swept = sweep::sweep(desc, context, address, alignment, code, rows);
     match swept {
         Swept::Ended {
             why,
@@ -257,6 +258,10 @@ pub extern "C" fn dookerand_sweep(
             0
         }
         Swept::Rejected(rejection) => reject(rejection, values),
+        Swept::NoAlignment(n) => {
+            *values = [n as u64, 0, 0, 0];
+            12
+        }
     }
 }
 
@@ -274,16 +279,17 @@ pub extern "C" fn dookerand_list(
     desc: &[u8],
     context: u32,
     address: u32,
+    alignment: u32,
     code: &[u8],
     from: u64,
     text: &mut [u8],
     values: &mut [u64; 4],
 ) -> u32
-    ensures { λ r. ⌜ r ≡ listing.numberOf (listOf (now (desc .entry)) context address (now (code .entry)) from (length (now (text .entry)))) ⌝ }
-    ensures { λ _. ⌜ now (values .exit) ≡ listing.valuesOf (listOf (now (desc .entry)) context address (now (code .entry)) from (length (now (text .entry)))) ⌝ }
-    ensures { λ _. ⌜ now (text .exit) ≡ listAfter (now (desc .entry)) context address (now (code .entry)) from (now (text .entry)) ⌝ }
+    ensures { λ r. ⌜ r ≡ listing.numberOf (listOf (now (desc .entry)) context address alignment (now (code .entry)) from (length (now (text .entry)))) ⌝ }
+    ensures { λ _. ⌜ now (values .exit) ≡ listing.valuesOf (listOf (now (desc .entry)) context address alignment (now (code .entry)) from (length (now (text .entry)))) ⌝ }
+    ensures { λ _. ⌜ now (text .exit) ≡ listAfter (now (desc .entry)) context address alignment (now (code .entry)) from (now (text .entry)) ⌝ }
 {
-    let listed = listing_text::list(desc, context, address, code, from as usize, text);
+    let listed = listing_text::list(desc, context, address, alignment, code, from as usize, text);
     match listed {
         Listed::Done(part) => {
             let full = full_number(part.full);
@@ -291,5 +297,9 @@ pub extern "C" fn dookerand_list(
             0
         }
         Listed::Rejected(rejection) => reject(rejection, values),
+        Listed::NoAlignment(n) => {
+            *values = [n as u64, 0, 0, 0];
+            12
+        }
     }
 }

@@ -1,4 +1,5 @@
 -- Laws of a line.
-pub mod Appending
 pub mod Showing
+pub mod Unaligned
+mod Fitting
 mod Made

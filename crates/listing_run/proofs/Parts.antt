@@ -1,12 +1,12 @@
 -- What the program knows of a part of the listing.
 use Prim.Native.Nat.{ℕ, _+_, _-_, _≤_, _<_}
 use mathlib.Core.Bool.{Bool, true, false, cond}
-use mathlib.Core.List.{List, _++_}
+use mathlib.Core.List.{List}
 use mathlib.Core.Path.{_≡_, refl, ap, _∙_}
 use native.Mathlib.Omega.{arith}
 use lib.ListN.{length, drop, length-append}
 use Rattle.printing.specs.Writing.{over}
-use Rattle.listing_lines.specs.Line.{lineBytes}
+use Rattle.listing_parts.specs.Parts.{lineBytes}
 use Rattle.listing_text.specs.Listing.{inputWindow, partOf}
 use Rattle.listing_text.specs.Runs.{endOf}
 use Rattle.listing_text.specs.declared.Part.{Part}

@@ -1,10 +1,10 @@
 -- The one line of a bad description, put into the lent text.
-use Prim.Native.Nat.{ℕ, _+_, _≤_, _<_}
+use Prim.Native.Nat.{ℕ, _+_, _≤_}
 use mathlib.Core.Bool.{true, false}
 use mathlib.Core.List.{List, [], _++_, append-nil}
 use mathlib.Core.Path.{_≡_, refl, sym, ap, _∙_}
 use native.Mathlib.Omega.{arith}
-use borrow.Author.Tests.{le-leb, lt-leb, eq-eqb, ne-eqb}
+use borrow.Author.Tests.{le-leb, lt-leb, ne-eqb}
 use lib.ListN.{length, take, length-take}
 use lib.Seq.{take-at}
 use Rattle.acceptance.specs.declared.Rejection.{Rejection}
@@ -12,9 +12,9 @@ use Rattle.printing.specs.Writing.{Puts, over}
 use Rattle.printing.specs.declared.Printed.{Printed}
 use Rattle.printing.specs.declared.Printed.the-variants.{Wrote, Full}
 use Rattle.printing.proofs.Writing.{puts-wrote, puts-full}
-use Rattle.listing_lines.specs.Line.{faultText, faultLine}
-use Rattle.listing_lines.specs.declared.FaultLine.{FaultLine}
-use Rattle.listing_text.specs.Listing.{noLines, before, faultWindow, partOf}
+use Rattle.listing_parts.specs.Parts.{faultText, faultLine}
+use Rattle.listing_parts.specs.declared.FaultLine.{FaultLine}
+use Rattle.listing_text.specs.Listing.{faultWindow}
 use Rattle.listing_text.specs.Windows.{Lists}
 use Rattle.listing_text.specs.declared.Part.{Part}
 

@@ -18,7 +18,7 @@ use Rattle.listing_text.proofs.Moving.{moves-on}
 abbrev after : List ℕ → ℕ → Window → Window
 after text lines w = record { text = text ++ w .text; lines = lines + w .lines; next = w .next; full = w .full }
 
-module _ (d : Description) (c address : ℕ) (s old : List ℕ) (from : ℕ) where
+module _ (d : Description) (c address u : ℕ) (s old : List ℕ) (from : ℕ) where
   pub record Going (out : List ℕ) (at bytes lines : ℕ) : Type 0 where
     pub most : ℕ
     pub enough : length s ≤ at + most
@@ -27,7 +27,7 @@ module _ (d : Description) (c address : ℕ) (s old : List ℕ) (from : ℕ) whe
     pub fits : length text ≤ length old
     pub few : lines ≤ bytes
     pub holds : out ≡ over text old
-    pub rest : windowOf d c address s (length old) from ≡ after text lines (windowFrom d c address s most (length old - bytes) at)
+    pub rest : windowOf d c address u s (length old) from ≡ after text lines (windowFrom d c address u s most (length old - bytes) at)
 
   same-window : (text text′ : List ℕ) (lines lines′ : ℕ) (w : Window) → text ≡ text′ → lines ≡ lines′
       → _≡_ {A = Window} (record { text = text; lines = lines; next = w .next; full = w .full }) (record { text = text′; lines = lines′; next = w .next; full = w .full })
@@ -46,7 +46,7 @@ module _ (d : Description) (c address : ℕ) (s old : List ℕ) (from : ℕ) whe
         holds = refl;
         rest =
             let z : length old - 0 ≡ length old = omega arith in
-            let w = windowFrom d c address s (length s) (length old) from in
+            let w = windowFrom d c address u s (length s) (length old) from in
             let n : w .lines ≡ 0 + w .lines = omega arith in
             rw z (same-window (w .text) (w .text) (w .lines) (0 + w .lines) w refl n);
       }
@@ -58,10 +58,10 @@ module _ (d : Description) (c address : ℕ) (s old : List ℕ) (from : ℕ) whe
     pub bytes-fit : bytes ≤ length old
     bytes-fit = omega (arith, g .count, g .fits)
 
-    ends : (full : Bool) → windowFrom d c address s (g .most) room at ≡ noLines at full
-        → Lists (windowOf d c address s (length old) from) old (record { bytes = bytes; lines = lines; next = at; full = full }) out
+    ends : (full : Bool) → windowFrom d c address u s (g .most) room at ≡ noLines at full
+        → Lists (windowOf d c address u s (length old) from) old (record { bytes = bytes; lines = lines; next = at; full = full }) out
     ends full e =
-        let is : windowOf d c address s (length old) from ≡ record { text = g .text ++ []; lines = lines + 0; next = at; full = full } =
+        let is : windowOf d c address u s (length old) from ≡ record { text = g .text ++ []; lines = lines + 0; next = at; full = full } =
         g .rest ∙ ap (after (g .text) lines) e in
         let long : bytes ≡ length (g .text ++ []) = g .count ∙ ap length (sym (append-nil (g .text))) in
         let number : lines ≡ lines + 0 = omega arith in
@@ -73,21 +73,21 @@ module _ (d : Description) (c address : ℕ) (s old : List ℕ) (from : ℕ) whe
     -- the window from here on, where there is a line more
     module _ (b : at < length s) where
       abbrev pub line : List ℕ
-      line = lineAt d c address s at
+      line = lineAt d c address u s at
 
       level : suc (g .most - 1) ≡ g .most
       level = omega (arith, g .enough)
 
-      opened : windowFrom d c address s (g .most) room at
-          ≡ cond (leb (length line) room) (before line (windowFrom d c address s (g .most - 1) (room - length line) (nextAt d c address s at))) (noLines at true)
+      opened : windowFrom d c address u s (g .most) room at
+          ≡ cond (leb (length line) room) (before line (windowFrom d c address u s (g .most - 1) (room - length line) (nextAt d c address u s at))) (noLines at true)
       unfolding windowFrom
-      opened = ap (λ (m : ℕ). windowFrom d c address s m room at) (sym level) ∙ rw (lt-leb (length s) at b)
+      opened = ap (λ (m : ℕ). windowFrom d c address u s m room at) (sym level) ∙ rw (lt-leb (length s) at b)
 
-      pub going-on : (out′ : List ℕ) (count next : ℕ) → count ≡ length line → length line ≤ room → next ≡ nextAt d c address s at → 1 ≤ count
+      pub going-on : 0 < u → (out′ : List ℕ) (count next : ℕ) → count ≡ length line → length line ≤ room → next ≡ nextAt d c address u s at → 1 ≤ count
           → out′ ≡ over (g .text ++ line) old → Going out′ next (bytes + count) (lines + 1)
-      going-on out′ count next e f n some h =
-          let m = moves-on d c address s at b in
-          let w = windowFrom d c address s (g .most - 1) (room - length line) (nextAt d c address s at) in
+      going-on pos out′ count next e f n some h =
+          let m = moves-on d c address u s at pos b in
+          let w = windowFrom d c address u s (g .most - 1) (room - length line) (nextAt d c address u s at) in
           let left : room - length line ≡ length old - (bytes + count) = omega arith in
           let number : lines + (1 + w .lines) ≡ lines + 1 + w .lines = omega arith in
           record {
@@ -102,18 +102,18 @@ module _ (d : Description) (c address : ℕ) (s old : List ℕ) (from : ℕ) whe
                 g .rest ∙ ap (after (g .text) lines) (opened ∙ rw (le-leb (length line) room f))
                 ∙ same-window (g .text ++ (line ++ w .text)) ((g .text ++ line) ++ w .text) (lines + (1 + w .lines)) (lines + 1 + w .lines) w
                 (sym (append-assoc (g .text) line (w .text))) number
-                ∙ ap (λ (k : ℕ). after (g .text ++ line) (lines + 1) (windowFrom d c address s (g .most - 1) k (nextAt d c address s at))) left
-                ∙ ap (λ (k : ℕ). after (g .text ++ line) (lines + 1) (windowFrom d c address s (g .most - 1) (length old - (bytes + count)) k)) (sym n);
+                ∙ ap (λ (k : ℕ). after (g .text ++ line) (lines + 1) (windowFrom d c address u s (g .most - 1) k (nextAt d c address u s at))) left
+                ∙ ap (λ (k : ℕ). after (g .text ++ line) (lines + 1) (windowFrom d c address u s (g .most - 1) (length old - (bytes + count)) k)) (sym n);
           }
 
       pub going-full : room < length line
-          → Lists (windowOf d c address s (length old) from) old (record { bytes = bytes; lines = lines; next = at; full = true }) out
+          → Lists (windowOf d c address u s (length old) from) old (record { bytes = bytes; lines = lines; next = at; full = true }) out
       going-full f = ends true (opened ∙ rw (lt-leb (length line) room f))
 
-    pub going-end : length s ≤ at → Lists (windowOf d c address s (length old) from) old (record { bytes = bytes; lines = lines; next = at; full = false }) out
+    pub going-end : length s ≤ at → Lists (windowOf d c address u s (length old) from) old (record { bytes = bytes; lines = lines; next = at; full = false }) out
     unfolding windowFrom
     going-end h = ends false (go (g .most))
       where
-        go : (m : ℕ) → windowFrom d c address s m room at ≡ noLines at false
+        go : (m : ℕ) → windowFrom d c address u s m room at ≡ noLines at false
         go zero = refl
         go (suc m) = rw (le-leb (length s) at h)

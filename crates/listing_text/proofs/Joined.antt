@@ -7,27 +7,33 @@ use native.Mathlib.Omega.{arith}
 use borrow.Author.Tests.{leb-true, leb-false, eqb-true, eqb-false, ne-eqb}
 use lib.Dec.{leb, eqb}
 use lib.ListN.{length, length-append}
+use Rattle.alignment.specs.Alignment.{isAlignment}
+use Rattle.alignment.proofs.Laws.{alignment-some, alignment-few}
 use Rattle.printing.proofs.Numerals.{digits-length}
 use Rattle.format.specs.Description.{Description, description}
 use Rattle.acceptance.specs.Acceptance.{acceptanceOf, accepting, firstValue, secondValue}
 use Rattle.acceptance.specs.declared.Acceptance.{Acceptance}
 use Rattle.acceptance.specs.declared.Acceptance.the-variants.{Accepted, Rejected}
 use Rattle.acceptance.specs.declared.Rejection.{Rejection}
-use Rattle.listing_lines.specs.Line.{lineAt, nextAt, malformedText, faultText, lineBytes}
+use Rattle.listing_parts.specs.Parts.{malformedText, faultText, lineBytes}
+use Rattle.listing_lines.specs.Line.{lineAt, nextAt}
 use Rattle.listing_text.specs.Listing.{Window, noLines, before, linesOf, windowFrom, windowOf, faultFrom, faultWindow, listingFrom, codePart, descriptionPart, inputWindow}
 use Rattle.listing_text.specs.Runs.{SplitsAt, joined, placeAfter, endOf}
 use Rattle.listing_text.proofs.Moving.{moves-on, line-length, no-line, line-here}
 
-module _ (d : Description) (c address : ℕ) (s : List ℕ) where
-  abbrev Good : (room at : ℕ) → Window → Type 0
-  Good room at w = SplitsAt (linesOf d c address s) (length s) room at w
+module _ (d : Description) (c address u : ℕ) (ok : isAlignment u ≡ true) (s : List ℕ) where
+  some : 0 < u
+  some = alignment-some u ok
 
-  window-cut : (most room at : ℕ) → length s ≤ at + most → Good room at (windowFrom d c address s most room at)
+  abbrev Good : (room at : ℕ) → Window → Type 0
+  Good room at w = SplitsAt (linesOf d c address u s) (length s) room at w
+
+  window-cut : (most room at : ℕ) → length s ≤ at + most → Good room at (windowFrom d c address u s most room at)
   unfolding windowFrom
   window-cut zero room at h =
       record {
         rest = refl;
-        last = λ e. no-line d c address s at (omega arith);
+        last = λ e. no-line d c address u some s at (omega arith);
         more = λ z. let y : _≡_ {A = ℕ} 0 1 = cc in absurd (omega arith);
         since = omega arith;
         on = λ b r. absurd (omega arith);
@@ -35,18 +41,18 @@ module _ (d : Description) (c address : ℕ) (s : List ℕ) where
   window-cut (suc most) room at h = go (leb (length s) at) refl (λ room at h. window-cut most room at h)
     where
       line : List ℕ
-      line = lineAt d c address s at
+      line = lineAt d c address u s at
 
       next : ℕ
-      next = nextAt d c address s at
+      next = nextAt d c address u s at
 
-      fit : at < length s → ((room at : ℕ) → length s ≤ at + most → Good room at (windowFrom d c address s most room at)) → (t : Bool) → leb (length line) room ≡ t
-          → Good room at (cond t (before line (windowFrom d c address s most (room - length line) next)) (noLines at true))
+      fit : at < length s → ((room at : ℕ) → length s ≤ at + most → Good room at (windowFrom d c address u s most room at)) → (t : Bool) → leb (length line) room ≡ t
+          → Good room at (cond t (before line (windowFrom d c address u s most (room - length line) next)) (noLines at true))
       fit b again true e =
-          let f = moves-on d c address s at b in
+          let f = moves-on d c address u s at some b in
           let w = again (room - length line) next (omega (arith, f .on)) in
           record {
-            rest = line-here d c address s at b ∙ ap (λ (l : List ℕ). line ++ l) (w .rest) ∙ sym (append-assoc line _ _);
+            rest = line-here d c address u some s at b ∙ ap (λ (l : List ℕ). line ++ l) (w .rest) ∙ sym (append-assoc line _ _);
             last = w .last;
             more = w .more;
             since = omega (arith, w .since, f .on);
@@ -58,18 +64,18 @@ module _ (d : Description) (c address : ℕ) (s : List ℕ) where
             last = λ z. let y : _≡_ {A = ℕ} 0 1 = cc in absurd (omega arith);
             more = λ z. b;
             since = omega arith;
-            on = λ g r. absurd (omega (arith, leb-false (length line) room e, line-length d c address s at));
+            on = λ g r. absurd (omega (arith, leb-false (length line) room e, line-length d c address u s at (alignment-few u ok)));
           }
 
-      go : (t : Bool) → leb (length s) at ≡ t → ((room at : ℕ) → length s ≤ at + most → Good room at (windowFrom d c address s most room at))
+      go : (t : Bool) → leb (length s) at ≡ t → ((room at : ℕ) → length s ≤ at + most → Good room at (windowFrom d c address u s most room at))
           → Good room at
-          (cond t (noLines at false) (cond (leb (length line) room) (before line (windowFrom d c address s most (room - length line) next)) (noLines at true)))
+          (cond t (noLines at false) (cond (leb (length line) room) (before line (windowFrom d c address u s most (room - length line) next)) (noLines at true)))
       go true e again =
           let b = leb-true (length s) at e in
-          record { rest = refl; last = λ z. no-line d c address s at b; more = λ z. let y : _≡_ {A = ℕ} 0 1 = cc in absurd (omega arith); since = omega arith; on = λ g r. absurd (omega arith) }
+          record { rest = refl; last = λ z. no-line d c address u some s at b; more = λ z. let y : _≡_ {A = ℕ} 0 1 = cc in absurd (omega arith); since = omega arith; on = λ g r. absurd (omega arith) }
       go false e again = fit (leb-false (length s) at e) again (leb (length line) room) refl
 
-  pub window-of : (room at : ℕ) → SplitsAt (linesOf d c address s) (length s) room at (windowOf d c address s room at)
+  pub window-of : (room at : ℕ) → SplitsAt (linesOf d c address u s) (length s) room at (windowOf d c address u s room at)
   unfolding windowOf
   window-of room at = window-cut (length s) room at (omega arith)
 
@@ -119,9 +125,9 @@ input-window input room at = go (acceptanceOf (descriptionPart input))
     s = codePart input
 
     go : (a : Acceptance)
-        → SplitsAt (λ at. accepting (λ x. faultFrom x at) (λ d. linesOf d 0 0 s at) b a) (accepting (λ x. 1) (λ d. length s) b a) room at
-        (accepting (λ x. faultWindow x room at) (λ d. windowOf d 0 0 s room at) b a)
-    go (Accepted l) = window-of (description b l) 0 0 s room at
+        → SplitsAt (λ at. accepting (λ x. faultFrom x at) (λ d. linesOf d 0 0 1 s at) b a) (accepting (λ x. 1) (λ d. length s) b a) room at
+        (accepting (λ x. faultWindow x room at) (λ d. windowOf d 0 0 1 s room at) b a)
+    go (Accepted l) = window-of (description b l) 0 0 1 refl s room at
     go (Rejected x) = fault-window x room at
 
 -- parts joined are the whole, wherever they are cut

@@ -6,7 +6,9 @@ use mathlib.Core.Path.{_≡_, refl, ap, _∙_}
 use native.Mathlib.Omega.{arith}
 use borrow.Author.Tests.{le-leb, lt-leb, leb-true, leb-false}
 use lib.Dec.{leb}
-use lib.ListN.{length, getD, drop, length-append, length-drop}
+use lib.ListN.{length, drop, length-append, length-drop, length-take}
+use Rattle.alignment.specs.Alignment.{isMultiple}
+use Rattle.alignment.proofs.Laws.{gap-some, gap-inside, gap-reach}
 use Rattle.format.specs.Numbers.{longestText}
 use Rattle.format.specs.Description.{Description}
 use Rattle.decoding_spec.specs.Refusals.{isShort}
@@ -14,29 +16,40 @@ use Rattle.decoding_spec.specs.Tree.{Node}
 use Rattle.decoding_spec.specs.Walk.{Result, done, refused}
 use Rattle.decoding_spec.specs.Instruction.{instructionOf}
 use Rattle.decoding_theorems.proofs.InBounds.{in-bounds}
-use Rattle.listing_lines.proofs.Appending.{address-long}
-use Rattle.listing_lines.specs.Line.{hexDigits, byteText, shortWord, longWord, fitting, shownBy, shownAt, nextBy, nextAt, lineText, lineAt, lineBytes}
+use Rattle.listing_parts.proofs.Appending.{address-long}
+use Rattle.listing_parts.proofs.Gaps.{gap-text-most}
+use Rattle.listing_parts.specs.Parts.{gapText, shortWord, longWord, lineText, lineBytes}
+use Rattle.listing_lines.specs.Line.{gapAt, gapBytes, fitting, shownBy, shownAt, nextBy, nextAt, lineAt}
 use Rattle.text.specs.Text.{textOf}
 use Rattle.listing_text.specs.Listing.{linesFrom, linesOf}
 
--- "A done instruction moves on by its length", anything else by one byte, "short" to the end
+-- "A done instruction moves on by its length", a gap by its own, "short" to the end
 pub record Moves (at end next : ℕ) : Type 0 where
   pub on : at < next
   pub inside : next ≤ end
 
-pub moves-on : (d : Description) (c address : ℕ) (s : List ℕ) (at : ℕ) → at < length s → Moves at (length s) (nextAt d c address s at)
+pub moves-on : (d : Description) (c address u : ℕ) (s : List ℕ) (at : ℕ) → 0 < u → at < length s → Moves at (length s) (nextAt d c address u s at)
 unfolding nextAt
-moves-on d c address s at h = go (instructionOf d c (address + at) (drop at s)) refl
+moves-on d c address u s at some h = go (isMultiple u (address + at))
   where
-    one : (b : Bool) → Moves at (length s) (cond b (length s) (at + 1))
-    one true = record { on = h; inside = omega arith }
-    one false = record { on = omega arith; inside = omega arith }
+    gap : Moves at (length s) (at + gapAt address u s at)
+    gap =
+        let on = gap-some u (address + at) (length s - at) some (omega arith) in
+        record { on = omega arith; inside = omega (arith, gap-inside u (address + at) (length s - at)) }
 
-    go : (r : Result Node) → instructionOf d c (address + at) (drop at s) ≡ r → Moves at (length s) (nextBy at (length s) r)
-    go (done n l st) e =
+    refusal : (b : Bool) → Moves at (length s) (cond b (length s) (at + gapAt address u s at))
+    refusal true = record { on = h; inside = omega arith }
+    refusal false = gap
+
+    result : (r : Result Node) → instructionOf d c (address + at) (drop at s) ≡ r → Moves at (length s) (nextBy at (gapAt address u s at) (length s) r)
+    result (done n l st) e =
         let f = in-bounds d c (address + at) (drop at s) n l st e in
         record { on = omega (arith, f .some); inside = omega (arith, f .here, length-drop at s) }
-    go (refused r) e = one (isShort r)
+    result (refused r) e = refusal (isShort r)
+
+    go : (m : Bool) → Moves at (length s) (cond m (nextBy at (gapAt address u s at) (length s) (instructionOf d c (address + at) (drop at s))) (at + gapAt address u s at))
+    go true = result (instructionOf d c (address + at) (drop at s)) refl
+    go false = gap
 
 fitting-length : (w : List ℕ) → length (fitting w) ≤ longestText
 fitting-length w = go (leb (length w) longestText) refl
@@ -45,25 +58,34 @@ fitting-length w = go (leb (length w) longestText) refl
     go true e = leb-true (length w) longestText e
     go false e = omega arith
 
-shown-length : (d : Description) (c address : ℕ) (s : List ℕ) (at : ℕ) → length (shownAt d c address s at) ≤ longestText
-unfolding shownAt byteText hexDigits
-shown-length d c address s at = go (instructionOf d c (address + at) (drop at s))
+-- eight bytes of a gap are the most
+gap-shown : (u address : ℕ) (s : List ℕ) (at : ℕ) → u ≤ 8 → length (gapText (gapBytes address u s at)) ≤ longestText
+gap-shown u address s at few =
+    omega (arith, gap-text-most (gapBytes address u s at), length-take (gapAt address u s at) (drop at s), gap-reach u (address + at) (length s - at))
+
+shown-length : (d : Description) (c address u : ℕ) (s : List ℕ) (at : ℕ) → u ≤ 8 → length (shownAt d c address u s at) ≤ longestText
+unfolding shownAt
+shown-length d c address u s at few = go (isMultiple u (address + at))
   where
-    one : (b : Bool) → length (cond b shortWord (byteText (getD s at 0))) ≤ longestText
-    one true = omega arith
-    one false = omega arith
+    refusal : (b : Bool) → length (cond b shortWord (gapText (gapBytes address u s at))) ≤ longestText
+    refusal true = omega arith
+    refusal false = gap-shown u address s at few
 
-    go : (r : Result Node) → length (shownBy d (getD s at 0) r) ≤ longestText
-    go (done n l st) = fitting-length (textOf d n)
-    go (refused r) = one (isShort r)
+    result : (r : Result Node) → length (shownBy d (gapBytes address u s at) r) ≤ longestText
+    result (done n l st) = fitting-length (textOf d n)
+    result (refused r) = refusal (isShort r)
 
-pub line-length : (d : Description) (c address : ℕ) (s : List ℕ) (at : ℕ) → length (lineAt d c address s at) ≤ lineBytes
+    go : (m : Bool) → length (cond m (shownBy d (gapBytes address u s at) (instructionOf d c (address + at) (drop at s))) (gapText (gapBytes address u s at))) ≤ longestText
+    go true = result (instructionOf d c (address + at) (drop at s))
+    go false = gap-shown u address s at few
+
+pub line-length : (d : Description) (c address u : ℕ) (s : List ℕ) (at : ℕ) → u ≤ 8 → length (lineAt d c address u s at) ≤ lineBytes
 unfolding lineAt lineText
-line-length d c address s at = simp length-append (omega (arith, shown-length d c address s at, address-long (address + at)))
+line-length d c address u s at few = simp length-append (omega (arith, shown-length d c address u s at few, address-long (address + at)))
 
-module _ (d : Description) (c address : ℕ) (s : List ℕ) where
+module _ (d : Description) (c address u : ℕ) (some : 0 < u) (s : List ℕ) where
   -- more lines than there are bytes left are never wanted
-  lines-same : (m n at : ℕ) → length s - at ≤ m → length s - at ≤ n → linesFrom d c address s m at ≡ linesFrom d c address s n at
+  lines-same : (m n at : ℕ) → length s - at ≤ m → length s - at ≤ n → linesFrom d c address u s m at ≡ linesFrom d c address u s n at
   unfolding linesFrom
   lines-same zero zero at a b = refl
   lines-same (suc m) zero at a b = rw (le-leb (length s) at (omega arith))
@@ -71,20 +93,20 @@ module _ (d : Description) (c address : ℕ) (s : List ℕ) where
   lines-same (suc m) (suc n) at a b = go (leb (length s) at) refl (λ next f g. lines-same m n next f g)
     where
       go : (t : Bool) → leb (length s) at ≡ t
-          → ((next : ℕ) → length s - next ≤ m → length s - next ≤ n → linesFrom d c address s m next ≡ linesFrom d c address s n next)
-          → cond t [] (lineAt d c address s at ++ linesFrom d c address s m (nextAt d c address s at)) ≡ cond t [] (lineAt d c address s at ++ linesFrom d c address s n (nextAt d c address s at))
+          → ((next : ℕ) → length s - next ≤ m → length s - next ≤ n → linesFrom d c address u s m next ≡ linesFrom d c address u s n next)
+          → cond t [] (lineAt d c address u s at ++ linesFrom d c address u s m (nextAt d c address u s at)) ≡ cond t [] (lineAt d c address u s at ++ linesFrom d c address u s n (nextAt d c address u s at))
       go true e r = refl
       go false e r =
-          let f = moves-on d c address s at (leb-false (length s) at e) in
-          ap (λ (l : List ℕ). lineAt d c address s at ++ l) (r (nextAt d c address s at) (omega (arith, f .on)) (omega (arith, f .on)))
+          let f = moves-on d c address u s at some (leb-false (length s) at e) in
+          ap (λ (l : List ℕ). lineAt d c address u s at ++ l) (r (nextAt d c address u s at) (omega (arith, f .on)) (omega (arith, f .on)))
 
   -- at the end there is no line more ..
-  pub no-line : (at : ℕ) → length s ≤ at → linesOf d c address s at ≡ []
+  pub no-line : (at : ℕ) → length s ≤ at → linesOf d c address u s at ≡ []
   unfolding linesOf linesFrom
   no-line at h = lines-same (length s) 0 at (omega arith) (omega arith)
 
   -- .. and before it the line at the place, then the lines from the next place on
-  pub line-here : (at : ℕ) → at < length s → linesOf d c address s at ≡ lineAt d c address s at ++ linesOf d c address s (nextAt d c address s at)
+  pub line-here : (at : ℕ) → at < length s → linesOf d c address u s at ≡ lineAt d c address u s at ++ linesOf d c address u s (nextAt d c address u s at)
   unfolding linesOf linesFrom
   line-here at h =
       lines-same (length s) (suc (length s)) at (omega arith) (omega arith) ∙ rw (lt-leb (length s) at h)

@@ -4,27 +4,29 @@ use mathlib.Core.Bool.{Bool, true, false, cond}
 use mathlib.Core.List.{List, [], _∷_, _++_}
 use lib.Dec.{leb, eqb}
 use lib.ListN.{length, take, drop}
+use Rattle.alignment.specs.Alignment.{isAlignment}
 use Rattle.format.specs.Bytes.{u16At}
 use Rattle.format.specs.Description.{Description}
 use Rattle.acceptance.specs.Acceptance.{acceptanceOf, accepting, rejectionNumber, rejectionValues}
 use Rattle.acceptance.specs.declared.Rejection.{Rejection}
 use Rattle.printing.specs.Writing.{over}
-use Rattle.listing_lines.specs.Line.{lineAt, nextAt, faultText}
+use Rattle.listing_parts.specs.Parts.{faultText}
+use Rattle.listing_lines.specs.Line.{lineAt, nextAt}
 use Rattle.listing_text.specs.declared.Part.{Part}
 use Rattle.listing_text.specs.declared.Split.{Split}
 use Rattle.listing_text.specs.declared.Listed.{Listed}
-use Rattle.listing_text.specs.declared.Listed.the-variants.{Done, Rejected}
+use Rattle.listing_text.specs.declared.Listed.the-variants.{Done, Rejected, NoAlignment}
 
 -- ---- the whole listing
 
--- the lines of the code s, whose byte 0 has this address, from a place on, so many at most; each moves on by a byte at least
-unfoldable pub linesFrom : Description → (c address : ℕ) → List ℕ → ℕ → ℕ → List ℕ
-linesFrom d c address s zero at = []
-linesFrom d c address s (suc most) at = cond (leb (length s) at) [] (lineAt d c address s at ++ linesFrom d c address s most (nextAt d c address s at))
+-- the lines of the code s, whose byte 0 has this address, with alignment n, from a place on, so many at most; each moves on by a byte at least
+unfoldable pub linesFrom : Description → (c address n : ℕ) → List ℕ → ℕ → ℕ → List ℕ
+linesFrom d c address n s zero at = []
+linesFrom d c address n s (suc most) at = cond (leb (length s) at) [] (lineAt d c address n s at ++ linesFrom d c address n s most (nextAt d c address n s at))
 
 -- so there are no more lines than bytes
-unfoldable pub linesOf : Description → (c address : ℕ) → List ℕ → ℕ → List ℕ
-linesOf d c address s at = linesFrom d c address s (length s) at
+unfoldable pub linesOf : Description → (c address n : ℕ) → List ℕ → ℕ → List ℕ
+linesOf d c address n s at = linesFrom d c address n s (length s) at
 
 -- ---- as many whole lines as fit
 
@@ -42,28 +44,31 @@ abbrev pub before : List ℕ → Window → Window
 before line w = record { text = line ++ w .text; lines = 1 + w .lines; next = w .next; full = w .full }
 
 -- from a place on, with room for so many bytes
-unfoldable pub windowFrom : Description → (c address : ℕ) → List ℕ → (most room at : ℕ) → Window
-windowFrom d c address s zero room at = noLines at false
-windowFrom d c address s (suc most) room at =
+unfoldable pub windowFrom : Description → (c address n : ℕ) → List ℕ → (most room at : ℕ) → Window
+windowFrom d c address n s zero room at = noLines at false
+windowFrom d c address n s (suc most) room at =
     cond (leb (length s) at)
     (noLines at false)
-    (cond (leb (length (lineAt d c address s at)) room)
-    (before (lineAt d c address s at) (windowFrom d c address s most (room - length (lineAt d c address s at)) (nextAt d c address s at)))
+    (cond (leb (length (lineAt d c address n s at)) room)
+    (before (lineAt d c address n s at) (windowFrom d c address n s most (room - length (lineAt d c address n s at)) (nextAt d c address n s at)))
     (noLines at true))
 
-unfoldable pub windowOf : Description → (c address : ℕ) → List ℕ → (room at : ℕ) → Window
-windowOf d c address s room at = windowFrom d c address s (length s) room at
+unfoldable pub windowOf : Description → (c address n : ℕ) → List ℕ → (room at : ℕ) → Window
+windowOf d c address n s room at = windowFrom d c address n s (length s) room at
 
 abbrev pub partOf : Window → Part
 partOf w = record { bytes = length (w .text); lines = w .lines; next = w .next; full = w .full }
 
--- bytes b as the description, context c, the address of byte 0, bytes s as the code, from a place on, room for so many bytes
-unfoldable pub listOf : List ℕ → (c address : ℕ) → List ℕ → (from room : ℕ) → Listed
-listOf b c address s from room = accepting Rejected (λ d. Done (partOf (windowOf d c address s room from))) b (acceptanceOf b)
+-- bytes b as the description, context c, the address of byte 0, alignment n, bytes s as the code, from a place on, room for so many
+-- bytes; an alignment is refused as a sweep refuses it
+unfoldable pub listOf : List ℕ → (c address n : ℕ) → List ℕ → (from room : ℕ) → Listed
+listOf b c address n s from room =
+    accepting Rejected (λ d. cond (isAlignment n) (Done (partOf (windowOf d c address n s room from))) (NoAlignment n)) b (acceptanceOf b)
 
 -- the lent bytes afterwards
-unfoldable pub listAfter : List ℕ → (c address : ℕ) → List ℕ → ℕ → List ℕ → List ℕ
-listAfter b c address s from old = accepting (λ x. old) (λ d. over (windowOf d c address s (length old) from .text) old) b (acceptanceOf b)
+unfoldable pub listAfter : List ℕ → (c address n : ℕ) → List ℕ → ℕ → List ℕ → List ℕ
+listAfter b c address n s from old =
+    accepting (λ x. old) (λ d. cond (isAlignment n) (over (windowOf d c address n s (length old) from .text) old) old) b (acceptanceOf b)
 
 -- the answer's number, and its values: bytes written, lines written, next place, 1 where the text is full
 abbrev pub flag : Bool → ℕ
@@ -73,10 +78,12 @@ flag false = 0
 abbrev pub numberOf : Listed → ℕ
 numberOf (Done p) = 0
 numberOf (Rejected x) = rejectionNumber x
+numberOf (NoAlignment n) = 12
 
 abbrev pub valuesOf : Listed → List ℕ
 valuesOf (Done p) = p .bytes ∷ p .lines ∷ p .next ∷ flag (p .full) ∷ []
 valuesOf (Rejected x) = rejectionValues x
+valuesOf (NoAlignment n) = n ∷ 0 ∷ 0 ∷ 0 ∷ []
 
 -- ---- the program
 
@@ -111,10 +118,10 @@ faultWindow x room at =
     (cond (leb (length (faultText x)) room) (before (faultText x) (noLines 1 false)) (noLines 0 true))
     (noLines at false)
 
--- what is left to print from a place on; "context 0", and "a sweep that of its byte 0 (the listing 0)"
+-- what is left to print from a place on; "context 0", "a sweep that of its byte 0 (the listing 0)", "the listing keeps alignment 1"
 unfoldable pub listingFrom : List ℕ → ℕ → List ℕ
 listingFrom input at =
-    accepting (λ x. faultFrom x at) (λ d. linesOf d 0 0 (codePart input) at) (descriptionPart input) (acceptanceOf (descriptionPart input))
+    accepting (λ x. faultFrom x at) (λ d. linesOf d 0 0 1 (codePart input) at) (descriptionPart input) (acceptanceOf (descriptionPart input))
 
 -- the whole output
 abbrev pub listingOf : List ℕ → List ℕ
@@ -123,4 +130,4 @@ listingOf input = listingFrom input 0
 -- as many whole lines of it as fit
 unfoldable pub inputWindow : List ℕ → (room at : ℕ) → Window
 inputWindow input room at =
-    accepting (λ x. faultWindow x room at) (λ d. windowOf d 0 0 (codePart input) room at) (descriptionPart input) (acceptanceOf (descriptionPart input))
+    accepting (λ x. faultWindow x room at) (λ d. windowOf d 0 0 1 (codePart input) room at) (descriptionPart input) (acceptanceOf (descriptionPart input))

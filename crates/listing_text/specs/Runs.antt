@@ -5,7 +5,7 @@ use mathlib.Core.List.{List, [], _∷_, _++_}
 use mathlib.Core.Path.{_≡_}
 use lib.ListN.{length}
 use Rattle.acceptance.specs.Acceptance.{acceptanceOf, accepting}
-use Rattle.listing_lines.specs.Line.{lineBytes}
+use Rattle.listing_parts.specs.Parts.{lineBytes}
 use Rattle.listing_text.specs.Listing.{Window, descriptionPart, codePart}
 
 -- a window from a place on, where `left` is what is left to list from each place on, and nothing is from `end` on: its text comes

@@ -15,5 +15,5 @@ pub record Lists (w : Window) (old : List ℕ) (r : Part) (new : List ℕ) : Typ
   pub text : new ≡ over (w .text) old
 
 -- those of the lines from a place on, in bytes b that read as a description
-abbrev pub ListsIn : List ℕ → Layout → (c address : ℕ) → List ℕ → (from : ℕ) → List ℕ → Part → List ℕ → Type 0
-ListsIn b l c address s from old r new = Lists (windowOf (description b l) c address s (length old) from) old r new
+abbrev pub ListsIn : List ℕ → Layout → (c address n : ℕ) → List ℕ → (from : ℕ) → List ℕ → Part → List ℕ → Type 0
+ListsIn b l c address n s from old r new = Lists (windowOf (description b l) c address n s (length old) from) old r new

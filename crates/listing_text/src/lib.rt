@@ -7,8 +7,8 @@ ghost use mathlib.Core.Bool.{true};
 ghost use mathlib.Core.Path.{_≡_};
 ghost use Prim.Native.Nat.{_+_, min};
 ghost use lib.ListN.{length};
+ghost use Rattle.alignment.specs.Alignment.{isAlignment};
 ghost use Rattle.format.specs.Check.{WellFormed};
-ghost use Rattle.format.specs.Description.{description};
 ghost use Rattle.listing_text.specs.Listing.{splitOf, noLines, faultWindow, partOf, inputWindow, listOf, listAfter};
 ghost use Rattle.printing.specs.Writing.{over};
 ghost use Rattle.listing_text.specs.Windows.{Lists, ListsIn};
@@ -24,6 +24,7 @@ pub struct Part {
 pub enum Listed {
     Done(Part),
     Rejected(Rejection),
+    NoAlignment(u32),
 }
 
 // The description is input[start..end], the code input[end..last].
@@ -43,22 +44,32 @@ fn list_in(
     layout: Layout,
     context: u32,
     address: u32,
+    alignment: usize,
     code: &[u8],
     from: usize,
     out: &mut [u8],
 ) -> Part
-    requires { ⌜ WellFormed (now desc) layout ⌝ }
-    ensures { λ r. ⌜ ListsIn (now (desc .entry)) layout context address (now (code .entry)) from (now (out .entry)) r (now (out .exit)) ⌝ }
+    requires { ⌜ WellFormed (now desc) layout × (isAlignment alignment ≡ true) ⌝ }
+    ensures { λ r. ⌜ ListsIn (now (desc .entry)) layout context address alignment (now (code .entry)) from (now (out .entry)) r (now (out .exit)) ⌝ }
 {
     let mut fixed = setting::fill(desc, layout, true);
+    let mut line = [0u8; listing_parts::LINE];
     let mut at = from;
     let mut bytes = 0;
     let mut lines = 0;
     while at < code.len() {
-        let line = listing_lines::line_at(desc, &mut fixed, context, address, code, at);
-        let text = line.bytes;
-        let size = line.size;
-        let put = printing::put_bytes(&text[..size], &mut out[bytes..]);
+        let shown = listing_lines::line_at(
+            desc,
+            &mut fixed,
+            context,
+            address,
+            alignment,
+            code,
+            at,
+            &mut line,
+        );
+        let size = shown.size;
+        let put = printing::put_bytes(&line[..size], &mut out[bytes..]);
         match put {
             Printed::Full => {
                 return Part {
@@ -71,7 +82,7 @@ fn list_in(
             Printed::Wrote(count) => {
                 bytes += count;
                 lines += 1;
-                at = line.next;
+                at = shown.next;
             }
         }
     }
@@ -83,22 +94,28 @@ fn list_in(
     }
 }
 
-// Any bytes as the description and as the code, any context and address, any place to go on from, any room for text.
+// Any bytes as the description and as the code, any context, address and alignment, any place to go on from, any room for text.
 pub fn list(
     desc: &[u8],
     context: u32,
     address: u32,
+    alignment: u32,
     code: &[u8],
     from: usize,
     out: &mut [u8],
 ) -> Listed
-    ensures { λ r. ⌜ r ≡ listOf (now (desc .entry)) context address (now (code .entry)) from (length (now (out .entry))) ⌝ }
-    ensures { λ _. ⌜ now (out .exit) ≡ listAfter (now (desc .entry)) context address (now (code .entry)) from (now (out .entry)) ⌝ }
+    ensures { λ r. ⌜ r ≡ listOf (now (desc .entry)) context address alignment (now (code .entry)) from (length (now (out .entry))) ⌝ }
+    ensures { λ _. ⌜ now (out .exit) ≡ listAfter (now (desc .entry)) context address alignment (now (code .entry)) from (now (out .entry)) ⌝ }
 {
     let acceptance = acceptance::accept(desc);
     match acceptance {
         Acceptance::Accepted(layout) => {
-            Listed::Done(list_in(desc, layout, context, address, code, from, out))
+            if alignment::is_alignment(alignment) {
+                let unit = alignment as usize;
+                let part = list_in(desc, layout, context, address, unit, code, from, out);
+                return Listed::Done(part);
+            }
+            Listed::NoAlignment(alignment)
         }
         Acceptance::Rejected(rejection) => Listed::Rejected(rejection),
     }
@@ -140,7 +157,7 @@ fn list_fault(rejection: Rejection, from: usize, out: &mut [u8]) -> Part
     ensures { λ r. ⌜ Lists (faultWindow rejection (length (now (out .entry))) from) (now (out .entry)) r (now (out .exit)) ⌝ }
 {
     if from == 0 {
-        let line = listing_lines::fault_line(rejection);
+        let line = listing_parts::fault_line(rejection);
         let text = line.bytes;
         let size = line.size;
         let put = printing::put_bytes(&text[..size], out);
@@ -196,7 +213,7 @@ pub fn list_input(input: &[u8], from: usize, out: &mut [u8]) -> Part
     let code = &input[end..last];
     let acceptance = acceptance::accept(desc);
     match acceptance {
-        Acceptance::Accepted(layout) => list_in(desc, layout, 0, 0, code, from, out),
+        Acceptance::Accepted(layout) => list_in(desc, layout, 0, 0, 1, code, from, out),
         Acceptance::Rejected(rejection) => list_fault(rejection, from, out),
     }
 }

@@ -1,7 +1,7 @@
--- The entry points over a description without expressions: at every address what document 01 says.
-use Prim.Native.Nat.{ℕ, _+_, _/_}
-use mathlib.Core.List.{List}
-use mathlib.Core.Path.{_≡_, ap, fun-ext}
+-- The entry points over a description without expressions: at every address, and with alignment 1, what document 01 says.
+use Prim.Native.Nat.{ℕ, _+_, _/_, _<_}
+use mathlib.Core.List.{List, [], _∷_}
+use mathlib.Core.Path.{_≡_, ap, fun-ext, _∙_}
 use lib.IntN.{ℤ}
 use lib.ListN.{length, getD, drop}
 use Rattle.format.specs.Numbers.{sweepNumbers}
@@ -17,9 +17,12 @@ use Rattle.decoding.specs.Decoding.{decodeOf, rowsAfter}
 use Rattle.text_decoding.specs.TextDecoding as texting
 use Rattle.text_decoding.specs.TextDecoding.{decodeTextOf, textAfter}
 use Rattle.sweep.specs.Sweep as sweeping
-use Rattle.sweep.specs.Sweep.{Sweep, stepBy, stepAt, sweepBy, sweepIn, sweepOf, bufferWith}
+use Rattle.sweep.specs.Sweep.{Sweep, stepBy, sweepBy, sweepIn, sweepOf, bufferWith}
+use Rattle.sweep_theorems.specs.Unaligned.{unalignedStep, unalignedSweep}
+use Rattle.sweep_theorems.proofs.Unaligned.{sweep-unaligned}
 use Rattle.sweep.specs.declared.Step.{Step}
 use Rattle.listing_lines.specs.Line.{shownBy, nextBy, shownAt, nextAt}
+use Rattle.listing_lines.proofs.Unaligned.{shown-unaligned, next-unaligned}
 use Rattle.six_section_theorems.specs.Base.{instructionBase, sweepBase}
 use Rattle.six_section_theorems.proofs.Walks.{decodes-as-before}
 
@@ -44,24 +47,24 @@ module _ (b : List ℕ) (l : Layout) (e : acceptanceOf b ≡ Accepted l) (none-t
   unfolding textAfter
   lent-text-as-before old = rw e (ap (texting.bufferAfter (description b l) old) (before a s))
 
-  swept : (numbers : ℕ) → sweepIn (description b l) c a s numbers ≡ sweepBase (description b l) c s numbers
-  unfolding sweepIn sweepBase stepAt
+  swept : (numbers : ℕ) → sweepIn (description b l) c a 1 s numbers ≡ sweepBase (description b l) c s numbers
+  unfolding unalignedSweep unalignedStep sweepBase
   swept numbers =
-      ap (λ (f : ℕ → Step). sweepBy f (length s) (numbers / sweepNumbers) 0) (fun-ext λ at. ap stepBy (before (a + at) (drop at s)))
+      sweep-unaligned (description b l) c a s numbers
+      ∙ ap (λ (f : ℕ → Step). sweepBy f (length s) (numbers / sweepNumbers) 0) (fun-ext λ at. ap (stepBy 1) (before (a + at) (drop at s)))
 
-  pub sweep-as-before : (numbers : ℕ) → sweepOf b c a s numbers ≡ sweeping.answerOf (sweepBase (description b l) c s numbers)
+  pub sweep-as-before : (numbers : ℕ) → sweepOf b c a 1 s numbers ≡ sweeping.answerOf (sweepBase (description b l) c s numbers)
   unfolding sweepOf
   sweep-as-before numbers = rw e (ap sweeping.answerOf (swept numbers))
 
-  pub lent-rows-as-before : (old : List ℤ) → sweeping.bufferAfter b c a s old ≡ bufferWith (sweepBase (description b l) c s (length old) .rows) old
+  pub lent-rows-as-before : (old : List ℤ) → sweeping.bufferAfter b c a 1 s old ≡ bufferWith (sweepBase (description b l) c s (length old) .rows) old
   unfolding sweeping.bufferAfter
   lent-rows-as-before old = rw e (ap (λ (w : Sweep). bufferWith (w .rows) old) (swept (length old)))
 
   -- a line of the listing shows, behind its address, what it showed
-  pub shown-as-before : (at : ℕ) → shownAt (description b l) c a s at ≡ shownBy (description b l) (getD s at 0) (instructionBase (description b l) c (drop at s))
-  unfolding shownAt
-  shown-as-before at = ap (shownBy (description b l) (getD s at 0)) (before (a + at) (drop at s))
+  module _ (at : ℕ) (h : at < length s) where
+    pub shown-as-before : shownAt (description b l) c a 1 s at ≡ shownBy (description b l) (getD s at 0 ∷ []) (instructionBase (description b l) c (drop at s))
+    shown-as-before = shown-unaligned (description b l) c a s at h ∙ ap (shownBy (description b l) (getD s at 0 ∷ [])) (before (a + at) (drop at s))
 
-  pub next-as-before : (at : ℕ) → nextAt (description b l) c a s at ≡ nextBy at (length s) (instructionBase (description b l) c (drop at s))
-  unfolding nextAt
-  next-as-before at = ap (nextBy at (length s)) (before (a + at) (drop at s))
+    pub next-as-before : nextAt (description b l) c a 1 s at ≡ nextBy at 1 (length s) (instructionBase (description b l) c (drop at s))
+    next-as-before = next-unaligned (description b l) c a s at h ∙ ap (nextBy at 1 (length s)) (before (a + at) (drop at s))

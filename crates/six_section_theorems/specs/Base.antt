@@ -61,6 +61,6 @@ module _ (g : Setting) where
 unfoldable pub instructionBase : Description → ℕ → List ℕ → Result Node
 instructionBase d c s = rejectEmpty (walkBase (settingOf d (length s)) (suc mostRows) (rootOf d) s 0 (starting c))
 
--- the sweep: "each row is that place's decoding"
+-- the sweep: "each row is that place's decoding", and a gap has one byte
 unfoldable pub sweepBase : Description → ℕ → List ℕ → ℕ → Sweep
-sweepBase d c s numbers = sweepBy (λ at. stepBy (instructionBase d c (drop at s))) (length s) (numbers / sweepNumbers) 0
+sweepBase d c s numbers = sweepBy (λ at. stepBy 1 (instructionBase d c (drop at s))) (length s) (numbers / sweepNumbers) 0

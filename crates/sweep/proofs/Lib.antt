@@ -1,4 +1,3 @@
 -- Laws of the sweep.
-mod Places
-mod Turns
-pub mod Facts
+pub mod Places
+pub mod Turns

@@ -1,7 +1,6 @@
--- Sweeping a code buffer (document 01, "Sweep").
+-- Sweeping a code buffer (document 01, "Sweep"; document 02, 3).
 
 -- what a reader has to believe
 pub mod Sweep
--- what the proofs and the theorems use
+-- what the proofs use
 pub mod Buffer
-pub mod Facts

@@ -5,16 +5,17 @@ use decoding_spec::Refusal;
 use format::Layout;
 use instructions::Stepped;
 use setting::FIXED;
+ghost use mathlib.Core.Bool.{true};
 ghost use mathlib.Core.Path.{_≡_};
-ghost use Prim.Native.Nat.{_+_, _*_, _<_, _≤_, _^_};
+ghost use Prim.Native.Nat.{_+_, _-_, _*_, _<_, _≤_, _^_};
 ghost use lib.ListN.{length};
+ghost use Rattle.alignment.specs.Alignment.{isAlignment};
 ghost use Rattle.format.specs.Numbers.{sweepNumbers};
 ghost use Rattle.format.specs.Check.{WellFormed};
 ghost use Rattle.setting.specs.Fixed.{Fixed};
-ghost use Rattle.walking.specs.Walks.{toldLength};
 ghost use Rattle.instructions.specs.Instructions.{resultAt};
-ghost use Rattle.sweep.specs.Sweep.{gap, stepBy, rowAt, sweepOf, bufferAfter};
-ghost use Rattle.sweep.specs.Buffer.{OutcomeIn, bufferWithRow};
+ghost use Rattle.sweep.specs.Sweep.{gap, alignedStep, rowAt, sweepOf, bufferAfter};
+ghost use Rattle.sweep.specs.Buffer.{OutcomeIn, StillFixed, bufferWithRow};
 
 // Why a sweep ended: the code is used up, no whole row is left, or the code is short.
 pub enum End {
@@ -26,6 +27,7 @@ pub enum End {
 pub enum Swept {
     Ended { why: End, rows: usize, next: usize },
     Rejected(Rejection),
+    NoAlignment(u32),
 }
 
 // What a place comes to: a row's length, answer and root constructor, or that the code is short there.
@@ -40,41 +42,51 @@ pub enum Step {
 
 const NUMBERS: usize = format::SWEEP_NUMBERS;
 
-// The constructor of a gap, and its length.
+// The constructor of a gap.
 const NO_ROOT: usize = 65535;
 
-const GAP: usize = 1;
-
-// A gap, with the refusal's number.
-fn gap_of(refusal: Refusal) -> Step
-    ensures { λ r. ⌜ r ≡ gap refusal ⌝ }
+// A gap of this length, with the refusal's number.
+fn gap_of(length: usize, refusal: Refusal) -> Step
+    ensures { λ r. ⌜ r ≡ gap length refusal ⌝ }
 {
     if decoding_spec::is_short(refusal) {
         return Step::Stop;
     }
     Step::Row {
-        length: GAP,
+        length,
         answer: decoding_spec::refusal_number(refusal),
         constructor: NO_ROOT,
     }
 }
 
-// The decoding at a place, from there to the end of the code, whose byte 0 has this address.
+// The decoding at a place, from there to the end of the code, whose byte 0 has this address; or that it is no multiple.
 fn step_at(
     desc: &[u8],
     fixed: &mut [usize; FIXED],
     context: u32,
     address: u32,
+    alignment: usize,
     code: &[u8],
     at: usize,
 ) -> Step
-    requires { ⌜ Fixed (now desc) (now fixed) × (at ≤ length (now code)) ⌝ }
-    ensures { λ r. ⌜ r ≡ stepBy (resultAt (now (desc .entry)) (now (fixed .entry)) (now (code .entry)) at context address) ⌝ }
-    ensures { λ _. ⌜ now (fixed .exit) ≡ toldLength (now (fixed .entry)) (now (code .entry)) at ⌝ }
+    requires { ⌜ Fixed (now desc) (now fixed) × (at ≤ length (now code)) × (isAlignment alignment ≡ true) ⌝ }
+    ensures { λ r. ⌜ r ≡ alignedStep alignment (address + at) (length (now (code .entry)) - at) (resultAt (now (desc .entry)) (now (fixed .entry)) (now (code .entry)) at context address) ⌝ }
+    ensures { λ _. ⌜ StillFixed (now (desc .entry)) (now (fixed .entry)) (now (fixed .exit)) ⌝ }
 {
+    let here = (address as usize) + at;
+    if !alignment::is_multiple(alignment, here) {
+        return Step::Row {
+            length: alignment::gap_length(alignment, here, code.len() - at),
+            answer: alignment::NO_MULTIPLE,
+            constructor: NO_ROOT,
+        };
+    }
     let found = instructions::step_at(desc, fixed, context, address, code, at);
     match found {
-        Stepped::Refused(refusal) => gap_of(refusal),
+        Stepped::Refused(refusal) => gap_of(
+            alignment::gap_length(alignment, here, code.len() - at),
+            refusal,
+        ),
         Stepped::Whole {
             length,
             constructor,
@@ -104,11 +116,12 @@ fn sweep_in(
     layout: Layout,
     context: u32,
     address: u32,
+    alignment: usize,
     code: &[u8],
     rows: &mut [i64],
 ) -> Swept
-    requires { ⌜ WellFormed (now desc) layout ⌝ }
-    ensures { λ r. ⌜ OutcomeIn (now (desc .entry)) layout context address (now (code .entry)) (now (rows .entry)) r (now (rows .exit)) ⌝ }
+    requires { ⌜ WellFormed (now desc) layout × (isAlignment alignment ≡ true) ⌝ }
+    ensures { λ r. ⌜ OutcomeIn (now (desc .entry)) layout context address alignment (now (code .entry)) (now (rows .entry)) r (now (rows .exit)) ⌝ }
 {
     let mut fixed = setting::fill(desc, layout, true);
     let room = rows.len() / NUMBERS;
@@ -122,7 +135,7 @@ fn sweep_in(
                 next: at,
             };
         }
-        let found = step_at(desc, &mut fixed, context, address, code, at);
+        let found = step_at(desc, &mut fixed, context, address, alignment, code, at);
         match found {
             Step::Stop => {
                 return Swept::Ended {
@@ -149,14 +162,27 @@ fn sweep_in(
     }
 }
 
-// Any bytes as the description and as the code, any context, any address of the code's byte 0, any room for rows.
-pub fn sweep(desc: &[u8], context: u32, address: u32, code: &[u8], rows: &mut [i64]) -> Swept
-    ensures { λ r. ⌜ r ≡ sweepOf (now (desc .entry)) context address (now (code .entry)) (length (now (rows .entry))) ⌝ }
-    ensures { λ _. ⌜ now (rows .exit) ≡ bufferAfter (now (desc .entry)) context address (now (code .entry)) (now (rows .entry)) ⌝ }
+// Any bytes as the description and as the code, any context, any address of the code's byte 0, any alignment, any room for rows.
+pub fn sweep(
+    desc: &[u8],
+    context: u32,
+    address: u32,
+    alignment: u32,
+    code: &[u8],
+    rows: &mut [i64],
+) -> Swept
+    ensures { λ r. ⌜ r ≡ sweepOf (now (desc .entry)) context address alignment (now (code .entry)) (length (now (rows .entry))) ⌝ }
+    ensures { λ _. ⌜ now (rows .exit) ≡ bufferAfter (now (desc .entry)) context address alignment (now (code .entry)) (now (rows .entry)) ⌝ }
 {
     let acceptance = acceptance::accept(desc);
     match acceptance {
-        Acceptance::Accepted(layout) => sweep_in(desc, layout, context, address, code, rows),
+        Acceptance::Accepted(layout) => {
+            if alignment::is_alignment(alignment) {
+                let unit = alignment as usize;
+                return sweep_in(desc, layout, context, address, unit, code, rows);
+            }
+            Swept::NoAlignment(alignment)
+        }
         Acceptance::Rejected(rejection) => Swept::Rejected(rejection),
     }
 }

@@ -451,13 +451,13 @@ fn why_ended(why: End) {
 }
 
 // A sweep of S over its example's code, with room for so many numbers at most 32: the end, the rows and the next byte.
-fn sweep_of(name: &[u8], room: usize) {
+fn sweep_of(name: &[u8], address: u32, alignment: u32, room: usize) {
     line(name);
     let s = S;
     let code = [0x13u8, 0x30, 0x1f, 0x25];
     let mut rows = [0i64; 32];
     if room <= 32 {
-        let swept = sweep::sweep(&s, 0, 0, &code, &mut rows[..room]);
+        let swept = sweep::sweep(&s, 0, address, alignment, &code, &mut rows[..room]);
         match swept {
             Swept::Ended {
                 why,
@@ -469,6 +469,10 @@ fn sweep_of(name: &[u8], room: usize) {
                 number(next);
             }
             Swept::Rejected(rejection) => rejected(rejection),
+            Swept::NoAlignment(n) => {
+                number(12);
+                number(n as usize);
+            }
         }
     }
     line(b"\n");
@@ -480,9 +484,17 @@ fn texts() {
 }
 
 fn sweeps() {
-    sweep_of(b"13 30 1F 25, room for four rows:", 16);
-    sweep_of(b"13 30 1F 25, room for two rows and three numbers:", 11);
-    sweep_of(b"13 30 1F 25, no room:", 0);
+    sweep_of(b"13 30 1F 25, room for four rows:", 0, 1, 16);
+    sweep_of(
+        b"13 30 1F 25, room for two rows and three numbers:",
+        0,
+        1,
+        11,
+    );
+    sweep_of(b"13 30 1F 25, no room:", 0, 1, 0);
+    sweep_of(b"13 30 1F 25, alignment 2:", 0, 2, 16);
+    sweep_of(b"13 30 1F 25 at 3, alignment 4:", 3, 4, 16);
+    sweep_of(b"13 30 1F 25, alignment 3, no room:", 0, 3, 0);
 }
 
 fn main() {

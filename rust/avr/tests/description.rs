@@ -2,7 +2,9 @@
 
 use std::collections::BTreeMap;
 
-use reference::{check, clash, decode, decode_text, listing, Clash, Description, Refusal};
+use reference::{
+    check, clash, decode, decode_text, list, listing, Alignment, Clash, Description, Refusal,
+};
 
 fn description() -> Description {
     check(&avr::description()).unwrap()
@@ -180,4 +182,33 @@ fn a_listing() {
 0000000e: rjmp .-0x2 ; 0xe
 ";
     assert_eq!(String::from_utf8_lossy(&listing(&input)), expected);
+}
+
+/// By words, what is no instruction is one gap. By bytes, its second byte and
+/// the next word's first are read as an instruction, and those behind are lost.
+#[test]
+fn listings_by_words_and_by_bytes() {
+    let code = code(&[0x0c01, 0x0001, 0x9300, 0x0100, 0x950a, 0x940e]);
+    let lines = |alignment| {
+        let listed = list(&description(), 0, 0x100, alignment, &code, 0, usize::MAX);
+        String::from_utf8(listed.text).unwrap()
+    };
+    let by_words = "\
+00000100: add r0, r1
+00000102: .byte 0x01, 0x00
+00000104: sts 0x0100, r16 ; 0x800100
+00000108: dec r16
+0000010a: .short
+";
+    assert_eq!(lines(Alignment::Two), by_words);
+    let by_bytes = "\
+00000100: add r0, r1
+00000102: .byte 0x01
+00000103: nop
+00000105: .byte 0x93
+00000106: movw r0, r0
+00000108: dec r16
+0000010a: .short
+";
+    assert_eq!(lines(Alignment::One), by_bytes);
 }

@@ -12,7 +12,7 @@ use crate::choosing::Set;
 use crate::proved_check;
 use crate::scan::{Scan, ROOM};
 use crate::subjects::{any_instructions, avr_description};
-use crate::sweep::CODE;
+use crate::sweep::{ALIGNMENT, CODE};
 use crate::timing::medians_of;
 
 const ADDRESS: u32 = 0;
@@ -29,6 +29,7 @@ struct Case {
     plain: Scan<1>,
     by_fours: Scan<4>,
     context: u32,
+    alignment: u32,
 }
 
 /// The proved request, the check that it begins with, and both scans'.
@@ -50,7 +51,9 @@ pub fn print() {
     cases.iter().for_each(Case::answers_alike);
     let (mut names, mut jobs) = (Vec::new(), Vec::new());
     for (request, of) in REQUESTS {
-        for case in &cases {
+        // A decoding takes no alignment.
+        let takes = |case: &&Case| request == "sweep" || case.alignment == ALIGNMENT;
+        for case in cases.iter().filter(takes) {
             names.push((request, case.name));
             jobs.push(of(case));
         }
@@ -74,20 +77,25 @@ pub fn print() {
         }
         println!();
     }
-    println!("{NOTE} A sweep takes {CODE} bytes, a decoding another instruction");
-    println!("at each call.");
+    println!("{NOTE} A sweep takes {CODE} bytes, by words with alignment 2,");
+    println!("else with 1; a decoding takes another instruction at each call.");
 }
 
-/// S, AVR, tables of 200 and 512 constructors, and 200 constructors in three
-/// tables.
-fn cases() -> [Case; 5] {
+/// S, AVR by bytes and by words, tables of 200 and 512 constructors, and 200
+/// constructors in three tables.
+fn cases() -> [Case; 6] {
     let s = description_s();
     let s_code = instruction_stream(&mut Rng::new(1), &s, 0, CODE);
     let avr = avr_description();
     let avr_code = any_instructions(&avr, CODE + 16);
+    let by_words = Case {
+        alignment: 2,
+        ..case("AVR, by words", avr.clone(), 0, avr_code.clone())
+    };
     [
         case("S", s, 0, s_code),
         case("AVR", avr, 0, avr_code),
+        by_words,
         made("200", instruction_set(200)),
         made("512", instruction_set(512)),
         made("200, 3 tables", nested_instruction_set(200)),
@@ -111,6 +119,7 @@ fn case(
         by_fours: Scan::new(&description),
         set: Set::of(description, stream),
         context,
+        alignment: ALIGNMENT,
     }
 }
 
@@ -127,17 +136,18 @@ impl Case {
 
     fn scans_alike<const GROUP: usize>(&self, scan: &Scan<GROUP>) {
         let [mut proved, mut scanned] = [(); 2].map(|()| vec![0; ROW_NUMBERS * CODE]);
-        let bytes = &self.set.bytes;
-        let answer = dookerand::sweep(bytes, self.context, ADDRESS, self.code(), &mut proved);
-        let (end, rows, next) = scan.sweep(self.context, ADDRESS, self.code(), &mut scanned);
+        let (bytes, code) = (&self.set.bytes, self.code());
+        let (context, alignment) = (self.context, self.alignment);
+        let answer = dookerand::sweep(bytes, context, ADDRESS, alignment, code, &mut proved);
+        let (end, rows, next) = scan.sweep(context, ADDRESS, alignment, code, &mut scanned);
         let found = (0, [end as u64, rows as u64, next as u64, 0]);
         assert_eq!((answer.number, answer.values), found, "{}", self.name);
         assert!(proved == scanned, "{}: other rows", self.name);
         for call in 0..COMPARED {
             let code = self.set.code(call);
             let [mut proved, mut scanned] = [[0; ROOM]; 2];
-            let answer = dookerand::decode(bytes, self.context, ADDRESS, code, &mut proved);
-            let rows = scan.decode(self.context, ADDRESS, code, &mut scanned);
+            let answer = dookerand::decode(bytes, context, ADDRESS, code, &mut proved);
+            let rows = scan.decode(context, ADDRESS, code, &mut scanned);
             assert_eq!(answer.number, 0, "{}", self.name);
             assert_eq!(rows, Ok(answer.values[0] as usize), "{}", self.name);
             assert_eq!(proved, scanned, "{}", self.name);
@@ -149,7 +159,8 @@ impl Case {
         let proved = move |_| {
             let rows = &mut *black_box(lent.borrow_mut());
             let (bytes, code) = (black_box(&self.set.bytes), black_box(self.code()));
-            let answer = dookerand::sweep(bytes, self.context, ADDRESS, code, rows);
+            let (context, alignment) = (self.context, self.alignment);
+            let answer = dookerand::sweep(bytes, context, ADDRESS, alignment, code, rows);
             assert_eq!(black_box(answer).number, 0);
         };
         let scans = (
@@ -163,7 +174,8 @@ impl Case {
         let lent = RefCell::new(vec![0; ROW_NUMBERS * CODE]);
         Box::new(move |_| {
             let rows = &mut *black_box(lent.borrow_mut());
-            let swept = black_box(scan).sweep(self.context, ADDRESS, black_box(self.code()), rows);
+            let (scan, code) = (black_box(scan), black_box(self.code()));
+            let swept = scan.sweep(self.context, ADDRESS, self.alignment, code, rows);
             assert!(black_box(swept).1 > 0);
         })
     }

@@ -9,7 +9,7 @@ use reference::{Description, Step};
 
 use crate::clock::median;
 use crate::scan::{value, Scan, Terms};
-use crate::sweep::CODE;
+use crate::sweep::{ALIGNMENT, CODE};
 use crate::timing::{rounds, FEW};
 
 const CONTEXT: u32 = 0;
@@ -81,8 +81,8 @@ fn proved<'a>(d: &Description, code: &'a [u8]) -> impl Fn(usize) + 'a {
     let lent = RefCell::new(vec![0; ROW_NUMBERS * INSTRUCTIONS]);
     move |_| {
         let rows = &mut *black_box(lent.borrow_mut());
-        let description = black_box(&description);
-        let answer = dookerand::sweep(description, CONTEXT, ADDRESS, black_box(code), rows);
+        let (description, code) = (black_box(&description), black_box(code));
+        let answer = dookerand::sweep(description, CONTEXT, ADDRESS, ALIGNMENT, code, rows);
         let all = [0, INSTRUCTIONS as u64, code.len() as u64, 0];
         assert_eq!((black_box(answer).number, answer.values), (0, all));
     }
@@ -93,7 +93,8 @@ fn scan<'a>(d: &Description, code: &'a [u8]) -> impl Fn(usize) + 'a {
     let lent = RefCell::new(vec![0; ROW_NUMBERS * INSTRUCTIONS]);
     move |_| {
         let rows = &mut *black_box(lent.borrow_mut());
-        let (_, written, _) = black_box(&scan).sweep(CONTEXT, ADDRESS, black_box(code), rows);
+        let (scan, code) = (black_box(&scan), black_box(code));
+        let (_, written, _) = scan.sweep(CONTEXT, ADDRESS, ALIGNMENT, code, rows);
         assert_eq!(black_box(written), INSTRUCTIONS);
     }
 }

@@ -5,11 +5,13 @@ use std::hint::black_box;
 
 use dookerand::Listing;
 use generate::bytes;
+use reference::Alignment;
 
 use crate::clock::{median, Time};
 use crate::processes::{cstool, listing, objdump};
 use crate::scan::Scan;
 use crate::subjects::{any_instructions, avr_description};
+use crate::sweep::ALIGNMENT;
 use crate::timing::{rounds_of, Job};
 
 /// Bytes of code.
@@ -37,21 +39,22 @@ pub fn print() {
     let lent = RefCell::new(vec![0; ROW_NUMBERS * instructions]);
     let sweep = |_| {
         let rows = &mut *black_box(lent.borrow_mut());
-        let bytes = black_box(&description);
-        let answer = dookerand::sweep(bytes, CONTEXT, ADDRESS, black_box(&code), rows);
+        let (bytes, code) = (black_box(&description), black_box(&code));
+        let answer = dookerand::sweep(bytes, CONTEXT, ADDRESS, ALIGNMENT, code, rows);
         let all = [0, instructions as u64, size as u64, 0];
         assert_eq!((black_box(answer).number, answer.values), (0, all));
     };
     let reference_sweep = |_| {
-        let code = black_box(&code);
-        let swept = reference::sweep(black_box(&d), CONTEXT, ADDRESS, code, instructions);
+        let (d, code) = (black_box(&d), black_box(&code));
+        let swept = reference::sweep(d, CONTEXT, ADDRESS, Alignment::One, code, instructions);
         assert_eq!(black_box(swept).rows.len(), instructions);
     };
     let scan = Scan::<4>::new(&d);
     let scan_lent = RefCell::new(vec![0; ROW_NUMBERS * instructions]);
     let scan_sweep = |_| {
         let rows = &mut *black_box(scan_lent.borrow_mut());
-        let (_, written, _) = black_box(&scan).sweep(CONTEXT, ADDRESS, black_box(&code), rows);
+        let (scan, code) = (black_box(&scan), black_box(&code));
+        let (_, written, _) = scan.sweep(CONTEXT, ADDRESS, ALIGNMENT, code, rows);
         assert_eq!(black_box(written), instructions);
     };
     let texts = |call| {
@@ -71,7 +74,7 @@ pub fn print() {
         while full {
             let bytes = black_box(&description);
             let code = black_box(&code);
-            let part = dookerand::list(bytes, CONTEXT, ADDRESS, code, next, &mut text);
+            let part = dookerand::list(bytes, CONTEXT, ADDRESS, ALIGNMENT, code, next, &mut text);
             let Listing::Listed {
                 lines,
                 next: behind,
@@ -79,7 +82,7 @@ pub fn print() {
                 ..
             } = black_box(part)
             else {
-                panic!("it is well formed");
+                panic!("it is not refused");
             };
             black_box(&text);
             (next, full, listed) = (behind, more, listed + lines);

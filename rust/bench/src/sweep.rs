@@ -4,6 +4,7 @@ use std::cell::RefCell;
 use std::hint::black_box;
 
 use dookerand::Answer;
+use reference::{requests, Alignment, Sweep};
 
 use crate::choosing::Set;
 use crate::decoding::{set, ADDRESS, CONTEXT};
@@ -13,6 +14,9 @@ use crate::timing::{print_each, print_speed, FEW};
 /// Bytes of code.
 pub const CODE: usize = 64 * 1024;
 
+/// Every place may have an instruction, unless it says otherwise.
+pub const ALIGNMENT: u32 = Alignment::One as u32;
+
 const ROW_NUMBERS: usize = 4;
 
 pub fn all() {
@@ -21,22 +25,20 @@ pub fn all() {
     let proved = |_| {
         let rows = &mut *black_box(lent.borrow_mut());
         let bytes = black_box(&set.bytes);
-        let answer = dookerand::sweep(bytes, CONTEXT, ADDRESS, code(&set), rows);
+        let answer = dookerand::sweep(bytes, CONTEXT, ADDRESS, ALIGNMENT, code(&set), rows);
         assert_eq!(black_box(answer).number, 0);
     };
     let whole = |_| {
         let rows = &mut *black_box(lent.borrow_mut());
         let bytes = black_box(&set.bytes);
-        let answer = reference::requests::sweep(bytes, CONTEXT, ADDRESS, code(&set), rows);
+        let answer = requests::sweep(bytes, CONTEXT, ADDRESS, ALIGNMENT, code(&set), rows);
         assert_eq!(black_box(answer.number_and_values()).0, 0);
     };
     let alone = |_| {
-        let description = black_box(&set.description);
-        let swept = reference::sweep(description, CONTEXT, ADDRESS, code(&set), CODE);
+        let swept = reference_sweep(black_box(&set));
         assert!(!black_box(swept).rows.is_empty());
     };
-    let swept = reference::sweep(&set.description, CONTEXT, ADDRESS, code(&set), CODE);
-    let instructions = swept.rows.len();
+    let instructions = reference_sweep(&set).rows.len();
     let request = format!("sweep of {CODE} bytes, {instructions} instructions");
     let times = set.compare(&request, (FEW, 1), [&proved, &whole, &alone]);
     print_each("  a byte", CODE, times.whole);
@@ -50,7 +52,7 @@ pub fn one_sweep() -> Answer {
     let mut rows = vec![0; ROW_NUMBERS * CODE];
     let set = set(CODE);
     let bytes = black_box(&set.bytes);
-    dookerand::sweep(bytes, CONTEXT, ADDRESS, code(&set), &mut rows)
+    dookerand::sweep(bytes, CONTEXT, ADDRESS, ALIGNMENT, code(&set), &mut rows)
 }
 
 pub fn one_avr_sweep() -> Answer {
@@ -58,7 +60,13 @@ pub fn one_avr_sweep() -> Answer {
     let description = avr_description();
     let stream = any_instructions(&description, CODE);
     let set = Set::of(description, stream);
-    dookerand::sweep(black_box(&set.bytes), 0, ADDRESS, code(&set), &mut rows)
+    let bytes = black_box(&set.bytes);
+    dookerand::sweep(bytes, 0, ADDRESS, ALIGNMENT, code(&set), &mut rows)
+}
+
+fn reference_sweep(set: &Set) -> Sweep {
+    let (d, code) = (&set.description, code(set));
+    reference::sweep(d, CONTEXT, ADDRESS, Alignment::One, code, CODE)
 }
 
 /// As much of the stream as is swept.

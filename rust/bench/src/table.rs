@@ -6,7 +6,7 @@ use std::hint::black_box;
 use reference::requests;
 
 use crate::subjects::Subject;
-use crate::sweep::CODE;
+use crate::sweep::{ALIGNMENT, CODE};
 use crate::timing::medians_of;
 
 /// Numbers for the most rows of an instruction, and bytes for its longest text.
@@ -145,12 +145,14 @@ fn sweep(s: &Subject) -> Jobs<'_> {
     [
         Box::new(move |_| {
             let rows = &mut *black_box(lent.borrow_mut());
-            let answer = dookerand::sweep(s.bytes(), s.context, ADDRESS, black_box(code), rows);
+            let code = black_box(code);
+            let answer = dookerand::sweep(s.bytes(), s.context, ADDRESS, ALIGNMENT, code, rows);
             done(answer);
         }),
         Box::new(move |_| {
             let rows = &mut *black_box(reference_lent.borrow_mut());
-            let answer = requests::sweep(s.bytes(), s.context, ADDRESS, black_box(code), rows);
+            let code = black_box(code);
+            let answer = requests::sweep(s.bytes(), s.context, ADDRESS, ALIGNMENT, code, rows);
             reference_done(answer);
         }),
     ]

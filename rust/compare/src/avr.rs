@@ -3,7 +3,7 @@
 use reference::requests;
 
 use crate::agreed::{agreed, hex};
-use crate::lent::{agreed_with_lent, Given};
+use crate::lent::{agreed_sweep, agreed_with_lent, Given};
 use crate::tally::Tally;
 
 const COLUMNS: &[&str] = &["done", "short", "no match"];
@@ -19,8 +19,12 @@ const TEXT: usize = 256;
 
 const ROW_NUMBERS: usize = 4;
 
+/// The alignment of the instruction set.
+const WORD: u32 = 2;
+
 /// Compares decoding, text and asking the root on every opcode, those of four
-/// bytes also cut, and sweeps over all of them and over the instructions.
+/// bytes also cut, and sweeps over all of them and over the instructions, by
+/// bytes and by words.
 pub fn compare() {
     let description = avr::description();
     let checked = reference::check(&description).expect("it is well formed");
@@ -45,9 +49,11 @@ pub fn compare() {
         all.extend(code);
         instructions.extend(&code[..length.unwrap_or(0)]);
     }
-    // Behind an opcode that is none, a sweep leaves the grid of words.
-    opcodes.sweep("swept, all", 0, &all);
-    opcodes.sweep("swept, instructions", u32::MAX, &instructions);
+    // Behind an opcode that is none, a sweep by bytes leaves the grid of words.
+    opcodes.sweep("swept, all", 0, 1, &all);
+    opcodes.sweep("swept, instructions", u32::MAX, 1, &instructions);
+    opcodes.sweep("by words, all", 0, WORD, &all);
+    opcodes.sweep("by words, instructions", u32::MAX - 1, WORD, &instructions);
     print!("{}", opcodes.tally);
 }
 
@@ -66,13 +72,7 @@ impl Opcodes {
         address: u32,
         code: &[u8],
     ) -> Option<usize> {
-        let given = |kind| Given {
-            kind,
-            description: &self.description,
-            context: CONTEXT,
-            address,
-            code,
-        };
+        let given = |kind| Given::new(kind, &self.description, CONTEXT, address, code);
         let (decoded, _, rows) =
             agreed_with_lent(&given(decode), ROWS, requests::rows, dookerand::decode);
         let (shown, ..) = agreed_with_lent(&given(text), TEXT, requests::text, dookerand::text);
@@ -87,19 +87,17 @@ impl Opcodes {
     }
 
     /// Compares one sweep, and counts its rows.
-    fn sweep(&mut self, kind: &'static str, address: u32, code: &[u8]) {
+    fn sweep(&mut self, kind: &'static str, address: u32, alignment: u32, code: &[u8]) {
         let given = Given {
-            kind,
-            description: &self.description,
-            context: CONTEXT,
-            address,
-            code,
+            alignment,
+            ..Given::new(kind, &self.description, CONTEXT, address, code)
         };
         let lent = ROW_NUMBERS * code.len();
-        let (number, [_, written, ..], rows) =
-            agreed_with_lent(&given, lent, requests::sweep, dookerand::sweep);
+        let (number, [_, written, ..], rows) = agreed_sweep(&given, lent);
         assert_eq!(number, 0, "the description is well formed");
         for row in rows.chunks(ROW_NUMBERS).take(written as usize) {
+            // Instructions are whole words, so the sweep stays on the grid.
+            assert_eq!(row[0] % i64::from(alignment), 0, "the reference");
             self.tally.count(kind, (row[2] as usize).saturating_sub(1));
         }
     }

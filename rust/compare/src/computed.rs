@@ -7,8 +7,7 @@ use generate::{
 };
 use reference::{requests, Expression};
 
-use crate::lent::{agreed_with_lent, Given};
-use crate::lines::agreed_list;
+use crate::lent::{agreed_list, agreed_with_lent, Given};
 use crate::listing::sort_of_line;
 use crate::tally::Tally;
 
@@ -60,14 +59,8 @@ fn each_table(mut all: impl Iterator<Item = Expression>, mut run: impl FnMut(&[E
 fn table(rng: &mut Rng, tally: &mut Tally, expressions: &[Expression], address: u32) {
     let description = bytes(&expression_table(expressions));
     let code: Vec<u8> = (0..=255).take(expressions.len()).collect();
-    let given = |kind, code| Given {
-        kind,
-        description: &description,
-        context: 0,
-        address,
-        code,
-    };
-    let (_, values, text) = agreed_list(&given("operators", &code), 0, LINE * code.len());
+    let given = |kind, code| Given::new(kind, &description, 0, address, code);
+    let (_, values, text) = agreed_list(&given("operators", &code), LINE * code.len());
     assert_eq!(values[1], code.len() as u64, "the reference");
     let text = String::from_utf8_lossy(&text[..values[0] as usize]);
     for (expression, line) in expressions.iter().zip(text.lines()) {

@@ -2,7 +2,8 @@
 
 use std::fmt::Debug;
 
-use generate::{address, Rng};
+use generate::{address, alignment, Rng};
+use reference::requests;
 
 use crate::agreed::{agreed, differ, hex};
 
@@ -10,15 +11,39 @@ use crate::agreed::{agreed, differ, hex};
 const MARGIN: usize = 4;
 
 /// What a request is made about.
+#[derive(Clone, Copy)]
 pub struct Given<'a> {
     pub kind: &'static str,
     pub description: &'a [u8],
     pub context: u32,
     pub address: u32,
+    /// Of sweeps and listings.
+    pub alignment: u32,
     pub code: &'a [u8],
+    /// Of listings.
+    pub from: u64,
 }
 
 impl<'a> Given<'a> {
+    /// With alignment 1, from the code's start on.
+    pub fn new(
+        kind: &'static str,
+        description: &'a [u8],
+        context: u32,
+        address: u32,
+        code: &'a [u8],
+    ) -> Given<'a> {
+        Given {
+            kind,
+            description,
+            context,
+            address,
+            alignment: 1,
+            code,
+            from: 0,
+        }
+    }
+
     /// At some address.
     pub fn somewhere(
         rng: &mut Rng,
@@ -27,13 +52,26 @@ impl<'a> Given<'a> {
         context: u32,
         code: &'a [u8],
     ) -> Given<'a> {
-        let address = address(rng);
+        Given::new(kind, description, context, address(rng), code)
+    }
+
+    /// At some address of any remainder, with some alignment.
+    pub fn aligned(
+        rng: &mut Rng,
+        kind: &'static str,
+        description: &'a [u8],
+        context: u32,
+        code: &'a [u8],
+    ) -> Given<'a> {
+        let given = Given::somewhere(rng, kind, description, context, code);
+        let before = match rng.once_in(2) {
+            true => 0,
+            false => rng.below(8) as u32,
+        };
         Given {
-            kind,
-            description,
-            context,
-            address,
-            code,
+            address: given.address.wrapping_sub(before),
+            alignment: alignment(rng),
+            ..given
         }
     }
 }
@@ -72,7 +110,9 @@ pub fn agreed_with_lent<T: Element>(
         description,
         context,
         address,
+        alignment,
         code,
+        from,
     } = given;
     let mut elements: Vec<T> = (0..MARGIN + lent + MARGIN).map(T::untouched).collect();
     let mut expected_elements = elements.clone();
@@ -82,8 +122,11 @@ pub fn agreed_with_lent<T: Element>(
     let lent_elements = &mut elements[of_lent.clone()];
     let answer = library(description, context, address, code, lent_elements);
     let request = || {
-        let code = hex(code);
-        format!("context {context:#x}, address {address:#x}, code {code}, {lent} lent")
+        let at = format!("address {address:#x}, alignment {alignment}, from {from}");
+        format!(
+            "context {context:#x}, {at}, {lent} lent, code {}",
+            hex(code)
+        )
     };
     let (number, values) = agreed(kind, request, description, &expected, answer);
     if elements != expected_elements {
@@ -93,4 +136,36 @@ pub fn agreed_with_lent<T: Element>(
     elements.truncate(of_lent.end);
     elements.drain(..of_lent.start);
     (number, values, elements)
+}
+
+/// The same for a sweep.
+pub fn agreed_sweep(given: &Given, lent: usize) -> (u32, [u64; 4], Vec<i64>) {
+    let alignment = given.alignment;
+    agreed_with_lent(
+        given,
+        lent,
+        |description, context, address, code, rows| {
+            requests::sweep(description, context, address, alignment, code, rows)
+        },
+        |description, context, address, code, rows| {
+            dookerand::sweep(description, context, address, alignment, code, rows)
+        },
+    )
+}
+
+/// The same for a listing.
+pub fn agreed_list(given: &Given, lent: usize) -> (u32, [u64; 4], Vec<u8>) {
+    let &Given {
+        alignment, from, ..
+    } = given;
+    agreed_with_lent(
+        given,
+        lent,
+        |description, context, address, code, text| {
+            requests::list(description, context, address, alignment, code, from, text)
+        },
+        |description, context, address, code, text| {
+            dookerand::list_answer(description, context, address, alignment, code, from, text)
+        },
+    )
 }

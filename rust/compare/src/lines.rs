@@ -6,19 +6,21 @@ use generate::{
     bytes, change_bytes, change_records, code, context, decodable, insert_or_remove, longest,
     longest_of_all, planted_stream, well_formed, with_rows, with_text, Leaning, Rng, Size,
 };
-use reference::{requests, Description};
+use reference::Description;
 
 use crate::agreed::{differ, hex};
+use crate::gaps::Gaps;
 use crate::instructions::{base, broken, MIDDLE, SMALL};
-use crate::lent::{agreed_with_lent, Given};
-use crate::listing::{sort_of_line, LINES};
+use crate::lent::{agreed_list, Given};
+use crate::listing::{gap_of_line, sort_of_line, LINES};
 use crate::tally::{print_counts, Tally};
 
-const COLUMNS: &[&str] = &["ended", "full", "no line fits", "malformed"];
+const COLUMNS: &[&str] = &["ended", "full", "no line fits", "malformed", "no alignment"];
 const ENDED: usize = 0;
 const FULL: usize = 1;
 const NO_LINE: usize = 2;
 const MALFORMED: usize = 3;
+const NO_ALIGNMENT: usize = 4;
 
 /// With what room listings are made, and from where.
 const SORTS: [&str; 4] = [
@@ -32,8 +34,10 @@ const ONE_SIZE: usize = 1;
 const ANY_SIZE: usize = 2;
 const PAST: usize = 3;
 
-/// The fewest listings of each column and sort, and lines of each sort.
+/// The fewest listings of each column and sort, and lines of each sort; the
+/// fewest gaps of each length.
 const LEAST: usize = 500;
+const LEAST_GAPS: usize = 100;
 
 /// A listing of up to so many bytes is made with every room, and at most so
 /// much more room than it needs.
@@ -47,6 +51,7 @@ pub fn compare(rng: &mut Rng) {
         tally: Tally::new(COLUMNS),
         sorts: [0; SORTS.len()],
         lines: [0; LINES.len()],
+        gaps: Gaps::default(),
         kind: "",
     };
     lists.fixed();
@@ -66,6 +71,7 @@ pub fn compare(rng: &mut Rng) {
     lists.tally.at_least(LEAST);
     print_counts("listings", &SORTS, &lists.sorts, LEAST);
     print_counts("lines", &LINES, &lists.lines, LEAST);
+    lists.gaps.print(LEAST_GAPS);
 }
 
 struct Lists<'a> {
@@ -74,22 +80,9 @@ struct Lists<'a> {
     sorts: [usize; SORTS.len()],
     /// How many lines of whole listings show each.
     lines: [usize; LINES.len()],
+    /// Those of whole listings.
+    gaps: Gaps,
     kind: &'static str,
-}
-
-/// The number and values that both gave for a listing from a place on, with the
-/// lent bytes.
-pub fn agreed_list(given: &Given, from: u64, lent: usize) -> (u32, [u64; 4], Vec<u8>) {
-    agreed_with_lent(
-        given,
-        lent,
-        |description, context, address, code, text| {
-            requests::list(description, context, address, code, from, text)
-        },
-        |description, context, address, code, text| {
-            dookerand::list_answer(description, context, address, code, from, text)
-        },
-    )
 }
 
 /// A part of a listing that both gave.
@@ -100,49 +93,57 @@ struct Part {
 }
 
 impl Lists<'_> {
-    /// Compares one call, if the description is well formed with what it gave.
+    /// Compares one call, and gives what it gave if it is not refused.
     fn one(&mut self, given: &Given, from: u64, lent: usize) -> Option<Part> {
-        let (number, values, mut text) = agreed_list(given, from, lent);
+        let (number, values, mut text) = agreed_list(&Given { from, ..*given }, lent);
         let listing = Listing::from(dookerand::Answer { number, values });
-        let Listing::Listed {
-            bytes,
-            lines,
-            next,
-            full,
-        } = listing
-        else {
-            self.tally.count(self.kind, MALFORMED);
-            return None;
-        };
-        let column = match (full, lines) {
-            (false, _) => ENDED,
-            (true, 0) => NO_LINE,
-            (true, _) => FULL,
+        let column = match listing {
+            Listing::Listed { full: false, .. } => ENDED,
+            Listing::Listed { lines: 0, .. } => NO_LINE,
+            Listing::Listed { .. } => FULL,
+            Listing::Malformed { .. } => MALFORMED,
+            Listing::NoAlignment { .. } => NO_ALIGNMENT,
         };
         self.tally.count(self.kind, column);
+        let Listing::Listed {
+            bytes, next, full, ..
+        } = listing
+        else {
+            return None;
+        };
         text.truncate(bytes);
         Some(Part { text, next, full })
     }
 
     /// Lists with more than enough room, with other rooms, from other places
     /// and in parts.
-    fn all(&mut self, description: &[u8], context: u32, code: &[u8]) {
-        let given = Given::somewhere(self.rng, self.kind, description, context, code);
-        let lent = LINE * code.len() + self.rng.below(MORE);
-        let Some(whole) = self.one(&given, 0, lent) else {
+    fn all(&mut self, given: &Given) {
+        let length = given.code.len();
+        let lent = LINE * length + self.rng.below(MORE);
+        let Some(whole) = self.one(given, 0, lent) else {
             for lent in [0, 1, LINE] {
-                let from = self.rng.below(code.len() + 2) as u64;
-                self.one(&given, from, lent);
+                let from = self.rng.below(length + 2) as u64;
+                self.one(given, from, lent);
             }
             return;
         };
         assert!(!whole.full, "the reference");
         for line in String::from_utf8_lossy(&whole.text).lines() {
             self.lines[sort_of_line(line)] += 1;
+            if let Some((address, length)) = gap_of_line(line) {
+                let end = address - u64::from(given.address) + length;
+                self.gaps.count(given, length, end);
+            }
         }
-        self.rooms(&given, 0, &whole.text);
-        self.in_parts(&given, &whole.text);
-        self.other_places(&given);
+        self.rooms(given, 0, &whole.text);
+        self.in_parts(given, &whole.text);
+        self.other_places(given);
+    }
+
+    /// The same at some address, with some alignment.
+    fn aligned(&mut self, description: &[u8], context: u32, code: &[u8]) {
+        let given = Given::aligned(self.rng, self.kind, description, context, code);
+        self.all(&given);
     }
 
     /// Every room for a small listing, and about as much as whole lines need for
@@ -179,7 +180,7 @@ impl Lists<'_> {
         let (mut text, mut next, mut full) = (Vec::new(), 0, true);
         while full {
             let lent = room(self.rng);
-            let part = self.one(given, next, lent).expect("it is well formed");
+            let part = self.one(given, next, lent).expect("it is not refused");
             text.extend(part.text);
             (next, full) = (part.next, part.full);
         }
@@ -197,7 +198,7 @@ impl Lists<'_> {
         if length > 0 {
             let from = self.rng.below(length) as u64;
             let enough = LINE * length;
-            let rest = self.one(given, from, enough).expect("it is well formed");
+            let rest = self.one(given, from, enough).expect("it is not refused");
             self.rooms(given, from, &rest.text);
         }
         let far = self.rng.word();
@@ -205,7 +206,7 @@ impl Lists<'_> {
         for from in [length, length + 1, 1 << 32, u64::MAX, far.max(length)] {
             self.sorts[PAST] += 1;
             let lent = self.rng.pick(&[0, 1, LINE]);
-            let part = self.one(given, from, lent).expect("it is well formed");
+            let part = self.one(given, from, lent).expect("it is not refused");
             assert_eq!((part.text.len(), part.next, part.full), (0, from, false));
         }
     }
@@ -229,7 +230,7 @@ impl Lists<'_> {
         let description = bytes(d);
         for _ in 0..times {
             let (code, context) = self.some_code(d);
-            self.all(&description, context, &code);
+            self.aligned(&description, context, &code);
         }
     }
 
@@ -289,12 +290,17 @@ impl Lists<'_> {
     fn much_code(&mut self) {
         self.kind = "much code";
         let s = description_s();
-        for length in [4_095, 4_096, 4_097, 5_000, 70_000] {
+        let description = bytes(&s);
+        for (length, alignment) in [(4_095, 8), (4_096, 4), (4_097, 2), (5_000, 1), (70_000, 1)] {
             let (code, context) = planted_stream(self.rng, &s, length);
-            self.all(&bytes(&s), context, &code);
+            let given = Given::aligned(self.rng, self.kind, &description, context, &code);
+            self.all(&Given { alignment, ..given });
         }
-        let code = self.any_bytes(20_000);
-        self.all(&avr::description(), 0, &code);
+        let (avr, code) = (avr::description(), self.any_bytes(20_000));
+        for alignment in [1, 2] {
+            let given = Given::new(self.kind, &avr, 0, 0, &code);
+            self.all(&Given { alignment, ..given });
+        }
     }
 
     /// The description's fault comes before all else.
@@ -317,6 +323,6 @@ impl Lists<'_> {
     /// Code for the description before the change.
     fn changed_description(&mut self, before: &Description, changed: &[u8]) {
         let (code, context) = self.some_code(before);
-        self.all(changed, context, &code);
+        self.aligned(changed, context, &code);
     }
 }

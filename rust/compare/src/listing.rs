@@ -30,6 +30,7 @@ const MALFORMED: usize = 3;
 
 /// What lines may show.
 pub const LINES: [&str; 4] = ["an instruction", ".byte", ".long", ".short"];
+const GAP_LINE: usize = 1;
 const SHORT_LINE: usize = 3;
 
 /// The fewest runs of each column and for faults of each section; the fewest
@@ -364,9 +365,17 @@ pub fn sort_of_line(line: &str) -> usize {
     match shown {
         ".short" => SHORT_LINE,
         ".long" => 2,
-        _ if shown.starts_with(".byte 0x") => 1,
+        _ if shown.starts_with(".byte 0x") => GAP_LINE,
         _ => 0,
     }
+}
+
+/// The address and the length of a gap.
+pub fn gap_of_line(line: &str) -> Option<(u64, u64)> {
+    let (address, shown) = line.split_once(": ")?;
+    let address = u64::from_str_radix(address, 16).ok()?;
+    let is_gap = sort_of_line(line) == GAP_LINE;
+    is_gap.then(|| (address, shown.split(", ").count() as u64))
 }
 
 /// A description with its length before it and code behind it.

@@ -7,8 +7,10 @@ mod avr;
 mod check;
 mod choosing;
 mod computed;
+mod cuts;
 mod decoding;
 mod fields;
+mod gaps;
 mod instructions;
 mod lent;
 mod lines;
@@ -44,6 +46,7 @@ fn main() {
     timed("text", || text::compare(&mut Rng::new(seed)));
     timed("sweep", || sweep::compare(&mut Rng::new(seed)));
     timed("list", || lines::compare(&mut Rng::new(seed)));
+    timed("cuts", || cuts::compare(&mut Rng::new(seed)));
     timed("operators", || computed::compare(&mut Rng::new(seed)));
     timed("AVR", avr::compare);
     timed("listing", || {

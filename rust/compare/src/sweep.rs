@@ -4,20 +4,23 @@ use generate::example::{description_s, full_featured, target};
 use generate::{
     bytes, change_bytes, change_records, code, context, decodable, insert_or_remove, longest,
     longest_of_all, planted_stream, well_formed, with_rows, with_text, Leaning, Rng, Size,
+    ALIGNMENTS,
 };
-use reference::{requests, Description};
+use reference::Description;
 
+use crate::gaps::{is_multiple, Gaps};
 use crate::instructions::{base, broken, MIDDLE, SMALL};
-use crate::lent::{agreed_with_lent, Given};
+use crate::lent::{agreed_sweep, Given};
 use crate::tally::{print_counts, Tally};
 
-const COLUMNS: &[&str] = &["used", "full", "short", "malformed"];
+const COLUMNS: &[&str] = &["used", "full", "short", "malformed", "no alignment"];
 const USED: u64 = 0;
 const FULL: u64 = 1;
 const MALFORMED: usize = 3;
+const NO_ALIGNMENT: usize = 4;
 
-/// The answers that rows have: done, 3 to 8, and 13.
-const ROWS: [&str; 8] = [
+/// The answers that rows have: done, 3 to 8, 13 and 14.
+const ROWS: [&str; 9] = [
     "done",
     "no match",
     "ambiguous",
@@ -26,14 +29,22 @@ const ROWS: [&str; 8] = [
     "33 rows",
     "length 0",
     "outside",
+    "no multiple",
 ];
+/// The first of the last two.
 const OUTSIDE: i64 = 13;
 
-/// Where two ends meet, the first of them is given.
-const MEETING: [&str; 2] = ["used and full", "full and short"];
+/// Where two of them meet, the first is given.
+const MEETING: [&str; 4] = [
+    "used and full",
+    "full and short",
+    "used and no multiple",
+    "full and no multiple",
+];
+const NO_MULTIPLE: usize = 2;
 
-/// The fewest sweeps for each end, and for two that meet; the fewest rows for
-/// each answer.
+/// The fewest sweeps for each end and refusal, and for two that meet; the fewest
+/// rows for each answer, and gaps of each length.
 const LEAST: usize = 500;
 
 const ROW_NUMBERS: usize = 4;
@@ -44,6 +55,7 @@ pub fn compare(rng: &mut Rng) {
         rng,
         tally: Tally::new(COLUMNS),
         rows: [0; ROWS.len()],
+        gaps: Gaps::default(),
         meeting: [0; MEETING.len()],
         kind: "",
     };
@@ -62,6 +74,7 @@ pub fn compare(rng: &mut Rng) {
     print!("{}", sweeping.tally);
     sweeping.tally.at_least(LEAST);
     print_counts("rows", &ROWS, &sweeping.rows, LEAST);
+    sweeping.gaps.print(LEAST);
     print_counts("ends that meet", &MEETING, &sweeping.meeting, LEAST);
 }
 
@@ -70,42 +83,53 @@ struct Sweeping<'a> {
     tally: Tally,
     /// How many rows have each answer.
     rows: [usize; ROWS.len()],
+    gaps: Gaps,
     meeting: [usize; MEETING.len()],
     kind: &'static str,
 }
 
 impl Sweeping<'_> {
     /// Compares one sweep with room for so many rows and at times a rest. Gives
-    /// the end and the rows written, if the description is well formed.
+    /// the end and the rows written, if it is not refused.
     fn one(&mut self, given: &Given, room: usize) -> Option<[u64; 2]> {
         let lent = ROW_NUMBERS * room + self.rng.below(ROW_NUMBERS);
-        let (number, [end, written, ..], rows) =
-            agreed_with_lent(given, lent, requests::sweep, dookerand::sweep);
+        let (number, [end, written, next, _], rows) = agreed_sweep(given, lent);
         if number != 0 {
-            self.tally.count(self.kind, MALFORMED);
+            let column = if number == 1 { MALFORMED } else { NO_ALIGNMENT };
+            self.tally.count(self.kind, column);
             return None;
         }
         self.tally.count(self.kind, end as usize);
-        for row in rows.chunks(ROW_NUMBERS).take(written as usize) {
-            let answer = match row[2] {
-                OUTSIDE => ROWS.len() - 1,
-                number => (number as usize).saturating_sub(2),
-            };
-            self.rows[answer] += 1;
+        if end <= FULL && !is_multiple(given, next) {
+            self.meeting[NO_MULTIPLE + end as usize] += 1;
         }
+        let (rows, _) = rows[..ROW_NUMBERS * written as usize].as_chunks();
+        rows.iter().for_each(|row| self.count_row(given, row));
         Some([end, written])
+    }
+
+    fn count_row(&mut self, given: &Given, &[start, length, answer, _]: &[i64; ROW_NUMBERS]) {
+        let place = match answer {
+            OUTSIDE.. => ROWS.len() - 2 + (answer - OUTSIDE) as usize,
+            _ => (answer as usize).saturating_sub(2),
+        };
+        self.rows[place] += 1;
+        if answer != 0 {
+            let end = (start + length) as u64;
+            self.gaps.count(given, length as u64, end);
+        }
     }
 
     /// Sweeps with room for a row at each byte, then with about as much as
     /// needed.
-    fn rooms(&mut self, description: &[u8], context: u32, code: &[u8]) {
-        let given = Given::somewhere(self.rng, self.kind, description, context, code);
-        let enough = code.len() + self.rng.below(2);
-        let Some([end, rows]) = self.one(&given, enough) else {
+    fn rooms(&mut self, given: &Given) {
+        let enough = given.code.len() + self.rng.below(2);
+        let Some([end, rows]) = self.one(given, enough) else {
+            self.one(given, 0);
             return;
         };
         let rows = rows as usize;
-        let tight = self.one(&given, rows);
+        let tight = self.one(given, rows);
         let expected = if end == USED { USED } else { FULL };
         assert_eq!(tight, Some([expected, rows as u64]), "the reference");
         self.meeting[usize::from(end != USED)] += 1;
@@ -113,7 +137,13 @@ impl Sweeping<'_> {
         let room = self
             .rng
             .pick(&[rows.saturating_sub(1), rows + 1, less, less]);
-        self.one(&given, room);
+        self.one(given, room);
+    }
+
+    /// The same at some address, with some alignment.
+    fn aligned(&mut self, description: &[u8], context: u32, code: &[u8]) {
+        let given = Given::aligned(self.rng, self.kind, description, context, code);
+        self.rooms(&given);
     }
 
     /// Code that matches some constructors, and a context.
@@ -134,7 +164,7 @@ impl Sweeping<'_> {
         let description = bytes(d);
         for _ in 0..times {
             let (code, context) = self.some_code(d);
-            self.rooms(&description, context, &code);
+            self.aligned(&description, context, &code);
         }
     }
 
@@ -148,7 +178,11 @@ impl Sweeping<'_> {
         let s = description_s();
         self.sweep(&s, 1_000);
         let (code, context) = planted_stream(self.rng, &s, 80_000);
-        self.rooms(&bytes(&s), context, &code);
+        let description = bytes(&s);
+        let given = Given::aligned(self.rng, self.kind, &description, context, &code);
+        for alignment in ALIGNMENTS {
+            self.rooms(&Given { alignment, ..given });
+        }
     }
 
     fn leaning(&mut self, kind: &'static str, descriptions: usize, leaning: Leaning) {
@@ -214,6 +248,6 @@ impl Sweeping<'_> {
     /// Code for the description before the change.
     fn changed_description(&mut self, before: &Description, changed: &[u8]) {
         let (code, context) = self.some_code(before);
-        self.rooms(changed, context, &code);
+        self.aligned(changed, context, &code);
     }
 }

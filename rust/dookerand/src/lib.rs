@@ -49,7 +49,8 @@ fn answer(call: impl FnOnce(*mut u64) -> u32) -> Answer {
     Answer { number, values }
 }
 
-/// A function of the C face that decodes code into lent numbers or bytes.
+/// A function of the C face that decodes one instruction into lent numbers or
+/// bytes.
 type Decoding<T> = unsafe extern "C" fn(
     description: *const u8,
     description_len: usize,

@@ -9,6 +9,7 @@ mod c {
             description_len: usize,
             context: u32,
             address: u32,
+            alignment: u32,
             code: *const u8,
             code_len: usize,
             from: u64,
@@ -39,6 +40,8 @@ pub enum Listing {
     },
     /// The description's first fault.
     Malformed { section: u16, record: u16 },
+    /// The number is not 1, 2, 4 or 8.
+    NoAlignment { number: u32 },
 }
 
 impl From<Answer> for Listing {
@@ -52,6 +55,9 @@ impl From<Answer> for Listing {
                 next,
                 full: end == 1,
             },
+            12 => Listing::NoAlignment {
+                number: first as u32,
+            },
             _ => Listing::Malformed {
                 section: first as u16,
                 record: second as u16,
@@ -61,26 +67,29 @@ impl From<Answer> for Listing {
 }
 
 /// Lists the code, whose first byte has this address, from a place on, a line
-/// for each instruction and for each byte that is none, as many whole lines as
-/// fit into the lent bytes. Those behind the lines stay as they were, and so do
-/// all if the description is malformed. [`LINE`] bytes are enough to get on.
+/// for each instruction and for each gap that a sweep with this alignment would
+/// have, as many whole lines as fit into the lent bytes. Those behind the lines
+/// stay as they were, and so do all if the description is malformed or the
+/// alignment is none. [`LINE`] bytes are enough to get on.
 pub fn list(
     description: &[u8],
     context: u32,
     address: u32,
+    alignment: u32,
     code: &[u8],
     from: u64,
     text: &mut [u8],
 ) -> Listing {
-    list_answer(description, context, address, code, from, text).into()
+    list_answer(description, context, address, alignment, code, from, text).into()
 }
 
 /// The same with its numbers: 0 with the bytes and lines written, the next
-/// place, and 1 if the text is full, else 0; or the refusal 1.
+/// place, and 1 if the text is full, else 0; or the refusal 1 or 12.
 pub fn list_answer(
     description: &[u8],
     context: u32,
     address: u32,
+    alignment: u32,
     code: &[u8],
     from: u64,
     text: &mut [u8],
@@ -95,6 +104,7 @@ pub fn list_answer(
                 description.len(),
                 context,
                 address,
+                alignment,
                 code.as_ptr(),
                 code.len(),
                 from,

@@ -88,7 +88,7 @@ fn texts() {
 fn sweeps() {
     let swept = |description: &[u8], address| {
         let mut rows = [77; MOST];
-        let answer = sweep(description, 0, address, &CODE, &mut rows);
+        let answer = sweep(description, 0, address, 1, &CODE, &mut rows);
         let (written, rest) = rows.split_at(4 * answer.values[1] as usize);
         assert!(rest.iter().all(|&number| number == 77));
         (answer, written.to_vec())
@@ -104,7 +104,7 @@ fn sweeps() {
 /// The lines that are listed from a place on.
 fn listed(description: &[u8], address: u32, from: u64) -> String {
     let mut lent = [b'~'; MOST];
-    let found = list(description, 0, address, &CODE, from, &mut lent);
+    let found = list(description, 0, address, 1, &CODE, from, &mut lent);
     let Listing::Listed {
         bytes, next, full, ..
     } = found

@@ -1,5 +1,5 @@
 /* Prints every constant of the header, calls each of its functions on each description (the arguments' files) and code
- * 25 FE at address 1000, and prints each answer: its number, its four values, and what was lent. */
+ * 25 FE at address 1000 and alignment 2, and prints each answer: its number, its four values, and what was lent. */
 #include <inttypes.h>
 #include <stdio.h>
 
@@ -26,7 +26,7 @@ static void print_constants(void)
     const int answers[] = { DOOKERAND_DONE, DOOKERAND_MALFORMED, DOOKERAND_SHORT, DOOKERAND_NO_MATCH,
                             DOOKERAND_AMBIGUOUS, DOOKERAND_HOLE, DOOKERAND_TOO_FAR, DOOKERAND_TOO_MANY_ROWS,
                             DOOKERAND_ROOT_LENGTH_ZERO, DOOKERAND_NO_ROOM, DOOKERAND_TEXT_TOO_LONG, DOOKERAND_BAD_TREE,
-                            DOOKERAND_NO_TABLE, DOOKERAND_OUTSIDE };
+                            DOOKERAND_NO_TABLE, DOOKERAND_OUTSIDE, DOOKERAND_NO_MULTIPLE };
 
     printf("answers");
     for (size_t i = 0; i < sizeof answers / sizeof answers[0]; i++)
@@ -43,7 +43,7 @@ static void call_each(size_t length)
 {
     const uint8_t code[] = { 0x25, 0xfe };
     const uint8_t tree[] = { 1, 0, 0, 0, 0, 0 };
-    const uint32_t address = 0x1000;
+    const uint32_t address = 0x1000, alignment = 2;
     int64_t rows[20] = { 0 };
     uint8_t text[16] = "................";
     uint8_t lines[24] = "........................";
@@ -58,10 +58,11 @@ static void call_each(size_t length)
     print("text", dookerand_text(description, length, 0, address, code, sizeof code, text, sizeof text, values),
           values);
     printf("%.16s\n", (const char *) text);
-    print("sweep", dookerand_sweep(description, length, 0, address, code, sizeof code, rows, 20, values), values);
-    print_rows(rows, 20);
-    print("list", dookerand_list(description, length, 0, address, code, sizeof code, 0, lines, sizeof lines, values),
+    print("sweep", dookerand_sweep(description, length, 0, address, alignment, code, sizeof code, rows, 20, values),
           values);
+    print_rows(rows, 20);
+    print("list", dookerand_list(description, length, 0, address, alignment, code, sizeof code, 0, lines, sizeof lines,
+                                 values), values);
     printf("%.24s\n", (const char *) lines);
 }
 

@@ -12,6 +12,7 @@ use generate::example::target;
 
 const CODE: [u8; 2] = [0x25, 0xfe];
 const ADDRESS: u32 = 0x1000;
+const ALIGNMENT: u32 = 2;
 /// One leaf, constructor 0.
 const TREE: [u8; 6] = [1, 0, 0, 0, 0, 0];
 
@@ -21,7 +22,7 @@ fn root() -> PathBuf {
 
 /// The constants, as docs/ANSWERS.md has them.
 const CONSTANTS: &str = "\
-answers 0 1 2 3 4 5 6 7 8 9 10 11 12 13
+answers 0 1 2 3 4 5 6 7 8 9 10 11 12 13 14
 rows 0 1 2 3
 ends 0 1 2
 room 4 4 128 256 275
@@ -81,10 +82,10 @@ fn answers(out: &mut String, description: &[u8]) {
     let shown = dookerand::text(description, 0, ADDRESS, &CODE, &mut text);
     line(out, "text", shown);
     writeln!(out, "{}", std::str::from_utf8(&text).unwrap()).unwrap();
-    let swept = dookerand::sweep(description, 0, ADDRESS, &CODE, &mut rows);
+    let swept = dookerand::sweep(description, 0, ADDRESS, ALIGNMENT, &CODE, &mut rows);
     line(out, "sweep", swept);
     numbers(out, &rows);
-    let listed = dookerand::list_answer(description, 0, ADDRESS, &CODE, 0, &mut lines);
+    let listed = dookerand::list_answer(description, 0, ADDRESS, ALIGNMENT, &CODE, 0, &mut lines);
     line(out, "list", listed);
     writeln!(out, "{}", std::str::from_utf8(&lines).unwrap()).unwrap();
 }

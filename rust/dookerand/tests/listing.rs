@@ -28,7 +28,7 @@ fn gives(
     (lines, next, full): (&[&str], u64, bool),
 ) {
     let mut text = untouched();
-    let found = list(description, context, 0, code, from, &mut text[..lent]);
+    let found = list(description, context, 0, 1, code, from, &mut text[..lent]);
     let joined = lines.concat();
     let expected = Listing::Listed {
         bytes: joined.len(),
@@ -132,7 +132,7 @@ fn malformed() {
                 section: 6,
                 record: 65_535,
             };
-            let found = list(&s()[..215], 0, 0, &CODE, from, &mut text[..lent]);
+            let found = list(&s()[..215], 0, 0, 1, &CODE, from, &mut text[..lent]);
             assert_eq!((found, text), (fault, untouched()));
         }
     }
@@ -140,7 +140,7 @@ fn malformed() {
 
 #[test]
 fn numbers() {
-    let numbers = |lent: usize| list_answer(&s(), 0, 0, &CODE, 0, &mut vec![0; lent]);
+    let numbers = |lent: usize| list_answer(&s(), 0, 0, 1, &CODE, 0, &mut vec![0; lent]);
     let answer = |values| Answer { number: 0, values };
     assert_eq!(numbers(70), answer([70, 4, 4, 0]));
     assert_eq!(numbers(69), answer([53, 3, 3, 1]));

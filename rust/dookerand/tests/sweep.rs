@@ -34,7 +34,7 @@ fn untouched() -> [i64; MOST] {
 /// Sweeps with the first so many numbers lent. All of them come back.
 fn swept(description: &[u8], code: &[u8], lent: usize) -> (Answer, [i64; MOST]) {
     let mut rows = untouched();
-    let answer = sweep(description, 0, 0, code, &mut rows[..lent]);
+    let answer = sweep(description, 0, 0, 1, code, &mut rows[..lent]);
     (answer, rows)
 }
 
@@ -160,7 +160,7 @@ fn the_context() {
     d.constructors[3].pattern.context_value = 1 << 31;
     let taken = |context| {
         let mut rows = [0; 8];
-        let answer = sweep(&bytes(&d), context, 0, &[0x1f, 0x1f], &mut rows);
+        let answer = sweep(&bytes(&d), context, 0, 1, &[0x1f, 0x1f], &mut rows);
         assert_eq!(answer.values, [USED, 2, 2, 0]);
         [rows[3], rows[7]]
     };

@@ -44,6 +44,22 @@ pub fn address(rng: &mut Rng) -> u32 {
     }
 }
 
+pub const ALIGNMENTS: [u32; 4] = [1, 2, 4, 8];
+
+/// Numbers that are no alignment, some of them such as look like one in a byte
+/// or two.
+pub const NO_ALIGNMENTS: [u32; 11] = [0, 3, 5, 6, 7, 9, 16, 257, 65_538, 1 << 31, u32::MAX];
+
+/// An alignment, each as often, and at times a number that is none.
+pub fn alignment(rng: &mut Rng) -> u32 {
+    let any = rng.word() as u32;
+    match rng.below(32) {
+        0 => rng.pick(&NO_ALIGNMENTS),
+        1 => any,
+        _ => rng.pick(&ALIGNMENTS),
+    }
+}
+
 /// Bytes from an asked table's constructor's start on, and a context.
 #[derive(Clone, Copy, Debug)]
 pub struct Input {

@@ -28,7 +28,7 @@ mod well_formed;
 mod write;
 
 pub use allowed::{Change, CHANGES};
-pub use code::{address, code, context, input, Input};
+pub use code::{address, alignment, code, context, input, Input, ALIGNMENTS, NO_ALIGNMENTS};
 pub use counts::count_faults;
 pub use decodable::{decodable, Leaning};
 pub use expressions::{compute_some, some_expression};

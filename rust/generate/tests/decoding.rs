@@ -4,6 +4,7 @@ use generate::{
     bytes, decodable, instruction_stream, nested_instruction_set, planted, planted_stream,
     table_ranges, with_rows, with_text, Leaning, Rng, Size, LONGEST_TEXT,
 };
+use reference::Alignment::One;
 use reference::{check, clash, decode, decode_text, sweep, Clash, Refusal, Row};
 
 const CODE: usize = 20;
@@ -153,7 +154,7 @@ fn planted_streams() {
         let length = rng.within(0..=200);
         let (code, context) = planted_stream(rng, &d, length);
         assert_eq!(code.len(), length);
-        for row in sweep(&d, context, 0, &code, length).rows {
+        for row in sweep(&d, context, 0, One, &code, length).rows {
             match row[2] {
                 0 => done += 1,
                 _ => gaps += 1,

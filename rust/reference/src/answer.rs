@@ -7,7 +7,7 @@ use crate::read::Fault;
 use crate::sweep::{End, Sweep};
 use crate::tree::Verdict;
 
-/// Why the decoder says no.
+/// Why the decoder says no. The last is given in a sweep's rows alone.
 #[derive(Clone, Copy, Debug, PartialEq, Eq)]
 pub enum Refusal {
     Malformed(Fault),
@@ -22,7 +22,9 @@ pub enum Refusal {
     TextTooLong,
     BadTree { node: u16 },
     NoTable { table: u32 },
+    NoAlignment { number: u32 },
     Outside { place: usize },
+    NoMultiple,
 }
 
 impl From<Fault> for Refusal {
@@ -47,7 +49,9 @@ impl Refusal {
             Refusal::TextTooLong => (10, values([])),
             Refusal::BadTree { node } => (11, values([node.into()])),
             Refusal::NoTable { table } => (12, values([table.into()])),
+            Refusal::NoAlignment { number } => (12, values([number.into()])),
             Refusal::Outside { place } => (13, values([place as u64])),
+            Refusal::NoMultiple => (14, values([])),
         }
     }
 }

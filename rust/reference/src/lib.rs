@@ -5,6 +5,7 @@
 //! passed. [`requests`] takes a description's bytes and gives the numbered
 //! answer, as the library's C face does.
 
+mod alignment;
 mod answer;
 mod check;
 mod choose;
@@ -19,6 +20,7 @@ mod sweep;
 mod text;
 mod tree;
 
+pub use alignment::Alignment;
 pub use answer::{Answer, Refusal};
 pub use check::check;
 pub use choose::{ask, Taken};

@@ -1,20 +1,21 @@
 //! Listing code as lines, and the listing program.
 
+use crate::alignment::Alignment;
 use crate::answer::Refusal;
 use crate::check::check;
-use crate::decode::decode_instruction;
 use crate::description::Description;
 use crate::text::text_of;
 
 const CODE_LIMIT: usize = 4096;
 const CONTEXT: u32 = 0;
 const ADDRESS: u32 = 0;
+const ALIGNMENT: Alignment = Alignment::One;
 
 /// What the program prints for its input: a length, a description, code.
 pub fn listing(input: &[u8]) -> Vec<u8> {
     let (description, code) = split(input);
     match check(description) {
-        Ok(description) => list(&description, CONTEXT, ADDRESS, code, 0, usize::MAX).text,
+        Ok(d) => list(&d, CONTEXT, ADDRESS, ALIGNMENT, code, 0, usize::MAX).text,
         Err(fault) => format!("malformed {} {}\n", fault.section, fault.record).into_bytes(),
     }
 }
@@ -40,11 +41,12 @@ pub struct Listed {
 }
 
 /// Lists the code, whose byte 0 has this address, from a place on, as many whole
-/// lines as there is room for.
+/// lines as there is room for. Instructions start at multiples of the alignment.
 pub fn list(
     description: &Description,
     context: u32,
     address: u32,
+    alignment: Alignment,
     code: &[u8],
     from: u64,
     room: usize,
@@ -58,7 +60,7 @@ pub fn list(
     // Past the code's end there is no rest.
     while let Some(rest) = rest(code, listed.next) {
         let address = address_at(address, listed.next);
-        let (shown, length) = shown_at(description, context, address, rest);
+        let (shown, length) = shown_at(description, context, address, alignment, rest);
         let mut line = format!("{:08x}: ", line_address(address)).into_bytes();
         line.extend(shown);
         line.push(b'\n');
@@ -95,14 +97,24 @@ fn shown_at(
     description: &Description,
     context: u32,
     address: u64,
+    alignment: Alignment,
     rest: &[u8],
 ) -> (Vec<u8>, usize) {
-    match decode_instruction(description, context, address, rest) {
+    match alignment.decode(description, context, address, rest) {
         Ok(decoded) => {
             let text = text_of(description, &decoded);
             (text.unwrap_or(b".long".to_vec()), decoded.length)
         }
         Err(Refusal::Short { .. }) => (b".short".to_vec(), rest.len()),
-        Err(_) => (format!(".byte 0x{:02x}", rest[0]).into_bytes(), 1),
+        Err(_) => {
+            let gap = alignment.gap(address, rest);
+            (shown_bytes(gap), gap.len())
+        }
     }
+}
+
+/// What the line of a gap shows.
+fn shown_bytes(bytes: &[u8]) -> Vec<u8> {
+    let bytes: Vec<String> = bytes.iter().map(|byte| format!("0x{byte:02x}")).collect();
+    format!(".byte {}", bytes.join(", ")).into_bytes()
 }

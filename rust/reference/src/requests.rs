@@ -1,6 +1,7 @@
 //! The requests on a description's bytes, with lent buffers and numbered
 //! answers: the shape of the library's C face.
 
+use crate::alignment::Alignment;
 use crate::answer::{Answer, Refusal};
 
 const ROW_NUMBERS: usize = 4;
@@ -67,12 +68,15 @@ pub fn sweep(
     description: &[u8],
     context: u32,
     address: u32,
+    alignment: u32,
     code: &[u8],
     lent: &mut [i64],
 ) -> Answer {
     let room = lent.len() / ROW_NUMBERS;
     let mut swept = || {
-        let sweep = crate::sweep(&crate::check(description)?, context, address, code, room);
+        let description = crate::check(description)?;
+        let alignment = Alignment::try_from(alignment)?;
+        let sweep = crate::sweep(&description, context, address, alignment, code, room);
         write(sweep.rows.as_flattened(), lent)?;
         Ok(sweep)
     };
@@ -84,13 +88,15 @@ pub fn list(
     description: &[u8],
     context: u32,
     address: u32,
+    alignment: u32,
     code: &[u8],
     from: u64,
     lent: &mut [u8],
 ) -> Answer {
     let mut listed = || {
-        let description = crate::check(description)?;
-        let listed = crate::list(&description, context, address, code, from, lent.len());
+        let (d, room) = (crate::check(description)?, lent.len());
+        let alignment = Alignment::try_from(alignment)?;
+        let listed = crate::list(&d, context, address, alignment, code, from, room);
         write(&listed.text, lent)?;
         Ok(listed)
     };

@@ -1,7 +1,8 @@
 //! Sweeping a code buffer.
 
+use crate::alignment::Alignment;
 use crate::answer::Refusal;
-use crate::decode::{decode_instruction, Row};
+use crate::decode::Row;
 use crate::description::Description;
 
 /// Why a sweep ended.
@@ -24,11 +25,13 @@ pub struct Sweep {
 const NO_CONSTRUCTOR: i64 = 65_535;
 
 /// Decodes the code from byte 0 on, which has this address, one row for each
-/// instruction or gap, with room for so many rows.
+/// instruction or gap, with room for so many rows. Instructions start at
+/// multiples of the alignment.
 pub fn sweep(
     description: &Description,
     context: u32,
     address: u32,
+    alignment: Alignment,
     code: &[u8],
     room: usize,
 ) -> Sweep {
@@ -41,20 +44,20 @@ pub fn sweep(
         if rows.len() == room {
             break End::Full;
         }
-        let start = next as i64;
         let address = u64::from(address) + next as u64;
-        match decode_instruction(description, context, address, &code[next..]) {
+        let rest = &code[next..];
+        let decoded = alignment.decode(description, context, address, rest);
+        let (length, answer, constructor) = match decoded {
             Err(Refusal::Short { .. }) => break End::Short,
-            Ok(root) => {
-                rows.push([start, root.length as i64, 0, root.constructor as i64]);
-                next += root.length;
-            }
+            Ok(root) => (root.length, 0, root.constructor as i64),
             Err(refusal) => {
                 let (number, _) = refusal.number_and_values();
-                rows.push([start, 1, number.into(), NO_CONSTRUCTOR]);
-                next += 1;
+                let gap = alignment.gap(address, rest);
+                (gap.len(), number.into(), NO_CONSTRUCTOR)
             }
-        }
+        };
+        rows.push([next as i64, length as i64, answer, constructor]);
+        next += length;
     };
     Sweep { rows, next, end }
 }

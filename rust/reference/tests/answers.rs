@@ -17,13 +17,18 @@ fn examples() -> Vec<Vec<&'static str>> {
     rows.skip(2).map(cells).collect()
 }
 
-/// The request, with so many lent if it says how many.
+/// The request, with the alignment and so many lent if it says so.
 fn answer(request: &str, code: &[u8]) -> Answer {
     let s = bytes(&description_s());
-    let (request, lent) = match request.split_once(", ") {
-        Some((request, lent)) => (request, lent.split(' ').next().unwrap().parse().unwrap()),
-        None => (request, 1000),
-    };
+    let mut said = request.split(", ");
+    let request = said.next().unwrap();
+    let (mut alignment, mut lent) = (1, 1000);
+    for said in said {
+        match said.strip_prefix("alignment ") {
+            Some(number) => alignment = number.parse().unwrap(),
+            None => lent = said.split(' ').next().unwrap().parse().unwrap(),
+        }
+    }
     let (mut rows, mut text) = (vec![0; lent], vec![0; lent]);
     match request {
         "check" => requests::check(&s),
@@ -31,8 +36,8 @@ fn answer(request: &str, code: &[u8]) -> Answer {
         "clash" => requests::clash(&s, TABLE),
         "decode" => requests::rows(&s, CONTEXT, 0, code, &mut rows),
         "text" => requests::text(&s, CONTEXT, 0, code, &mut text),
-        "sweep" => requests::sweep(&s, CONTEXT, 0, code, &mut rows),
-        "list" => requests::list(&s, CONTEXT, 0, code, 0, &mut text),
+        "sweep" => requests::sweep(&s, CONTEXT, 0, alignment, code, &mut rows),
+        "list" => requests::list(&s, CONTEXT, 0, alignment, code, 0, &mut text),
         _ => panic!("unknown request {request}"),
     }
 }

@@ -5,6 +5,7 @@ use generate::example::{
     branch, computed, constructor, description_s, expression, field, literal, name, operand, shown,
     step, target,
 };
+use reference::Alignment::One;
 use reference::{
     check, decode, decode_text, list, listing, requests, sweep, Description, Expression, Field,
     Operand, Refusal, Row, Step,
@@ -337,9 +338,9 @@ fn a_sweep_counts_addresses_on() {
     let d = target();
     let code = [0x25, 0x00, 0x25, 0xff, 0x30, 0x25];
     let rows = [[0, 2, 0, 0], [2, 2, 0, 0], [4, 1, 3, 65_535]];
-    assert_eq!(sweep(&d, 0, u32::MAX, &code, 9).rows, rows);
+    assert_eq!(sweep(&d, 0, u32::MAX, One, &code, 9).rows, rows);
     let lines = |address: u32, from: u64| {
-        let listed = list(&d, 0, address, &code, from, 1000);
+        let listed = list(&d, 0, address, One, &code, from, 1000);
         String::from_utf8(listed.text).unwrap()
     };
     let all = "\
@@ -362,13 +363,13 @@ fn a_sweep_counts_addresses_on() {
 fn gaps() {
     let d = branch(&[step(Step::ADDRESS, 0), step(Step::SHIFT_LEFT, 32)]);
     let code = [0x25, 0x25, 0x25, 0x25];
-    let swept = sweep(&d, 0, (1 << 31) - 2, &code, 9);
+    let swept = sweep(&d, 0, (1 << 31) - 2, One, &code, 9);
     let rows = [[0, 2, 0, 0], [2, 1, 13, 65_535]];
     assert_eq!(swept.rows[..2], rows);
-    let listed = list(&d, 0, (1 << 31) - 2, &code[..3], 0, 1000);
+    let listed = list(&d, 0, (1 << 31) - 2, One, &code[..3], 0, 1000);
     let lines = "7ffffffe: 0x7ffffffe00000000\n80000000: .short\n";
     assert_eq!(listed.text, lines.as_bytes());
-    let listed = list(&d, 0, 1 << 31, &code[..2], 0, 1000);
+    let listed = list(&d, 0, 1 << 31, One, &code[..2], 0, 1000);
     let lines = "80000000: .byte 0x25\n80000001: .short\n";
     assert_eq!(listed.text, lines.as_bytes());
 }

@@ -3,6 +3,7 @@
 use generate::example::{constructor, field, full_featured, literal, name, operand, shown};
 use generate::{code, context, well_formed, Rng, Size};
 use reference::requests;
+use reference::Alignment::One;
 use reference::{decode, decode_text, sweep, Description, End, Field, Operand, Refusal, Row};
 
 /// A constructor in table 1 with these operands, and one of one byte with a
@@ -153,7 +154,7 @@ fn rows_up_to_32() {
     far.operands[9].offset = 15;
     far.fields[0].width = 4;
     assert_eq!(answers(&far, &[1]), Err(Refusal::TooManyRows));
-    let swept = sweep(&tower(2), 0, 0, &[1], 1);
+    let swept = sweep(&tower(2), 0, 0, One, &[1], 1);
     assert_eq!(swept.rows, [[0, 1, 7, 65_535]]);
 }
 
@@ -161,7 +162,7 @@ fn rows_up_to_32() {
 fn no_length() {
     let d = walk(vec![]);
     assert_eq!(answers(&d, &[]), Err(Refusal::RootLengthZero));
-    let swept = sweep(&d, 0, 0, &[1], 9);
+    let swept = sweep(&d, 0, 0, One, &[1], 9);
     assert_eq!(swept.rows, [[0, 1, 8, 65_535]]);
     assert_eq!(swept.end, End::Used);
 }
@@ -247,7 +248,7 @@ fn lent_buffers() {
     assert_eq!(answer.number_and_values(), (0, [12, 0, 0, 0]));
     assert_eq!(&text, b"add r5, -0x2-");
     let mut rows = [77; 7];
-    let answer = requests::sweep(&s, 0, 0, &[0x13, 0x1f], &mut rows);
+    let answer = requests::sweep(&s, 0, 0, 1, &[0x13, 0x1f], &mut rows);
     assert_eq!(answer.number_and_values(), (0, [1, 1, 1, 0]));
     assert_eq!(rows, [0, 1, 0, 1, 77, 77, 77]);
 }

@@ -2,6 +2,7 @@
 
 use generate::bytes;
 use generate::example::description_s;
+use reference::Alignment::One;
 use reference::{
     ask, check, decode, decode_text, requests, sweep, Description, End, Fault, Refusal, Row, Taken,
 };
@@ -103,17 +104,17 @@ fn asked_tables() {
 #[test]
 fn swept_code() {
     let code = [0x13, 0x30, 0x1f, 0x25];
-    let swept = sweep(&s(), 0, 0, &code, 10);
+    let swept = sweep(&s(), 0, 0, One, &code, 10);
     let rows = [[0, 1, 0, 1], [1, 1, 3, 65_535], [2, 1, 0, 3]];
     assert_eq!(swept.rows, rows);
     assert_eq!((swept.next, swept.end), (3, End::Short));
 
-    let full = sweep(&s(), 0, 0, &code, 3);
+    let full = sweep(&s(), 0, 0, One, &code, 3);
     assert_eq!((full.rows.len(), full.next, full.end), (3, 3, End::Full));
-    let used = sweep(&s(), 0, 0, &[0x25, 0x01], 1);
+    let used = sweep(&s(), 0, 0, One, &[0x25, 0x01], 1);
     assert_eq!(used.rows, [[0, 2, 0, 2]]);
     assert_eq!((used.next, used.end), (2, End::Used));
-    let empty = sweep(&s(), 0, 0, &[], 0);
+    let empty = sweep(&s(), 0, 0, One, &[], 0);
     assert_eq!((empty.next, empty.end), (0, End::Used));
 }
 
@@ -123,7 +124,7 @@ fn swept_values() {
     let code = [0x13, 0x30, 0x1f, 0x25];
     let values = |code: &[u8], room: usize| {
         let mut lent = vec![0; 4 * room];
-        requests::sweep(&s, 0, 0, code, &mut lent).number_and_values()
+        requests::sweep(&s, 0, 0, 1, code, &mut lent).number_and_values()
     };
     assert_eq!(values(&code[..2], 10), (0, [0, 2, 2, 0]));
     assert_eq!(values(&[0x25, 0x01, 0x1f], 1), (0, [1, 1, 2, 0]));

@@ -2,6 +2,7 @@
 
 use generate::bytes;
 use generate::example::{constructor, description_s, literal, CODE, LINES};
+use reference::Alignment::One;
 use reference::{list, listing, requests, Description, Listed};
 
 fn input(d: &Description, code: &[u8]) -> Vec<u8> {
@@ -110,7 +111,7 @@ fn every_room() {
         }
         let text = LINES[..fitting].concat();
         let expected = listed(&text, fitting, fitting as u64, fitting < 4);
-        assert_eq!(list(&description_s(), 0, 0, &CODE, 0, room), expected);
+        assert_eq!(list(&description_s(), 0, 0, One, &CODE, 0, room), expected);
     }
 }
 
@@ -119,14 +120,17 @@ fn every_place() {
     for from in 0..4 {
         let expected = listed(&LINES[from..].concat(), 4 - from, 4, false);
         assert_eq!(
-            list(&description_s(), 0, 0, &CODE, from as u64, 100),
+            list(&description_s(), 0, 0, One, &CODE, from as u64, 100),
             expected
         );
     }
     for from in [4, 5, 1 << 32, u64::MAX] {
         for room in [0, 100] {
             let expected = listed("", 0, from, false);
-            assert_eq!(list(&description_s(), 0, 0, &CODE, from, room), expected);
+            assert_eq!(
+                list(&description_s(), 0, 0, One, &CODE, from, room),
+                expected
+            );
         }
     }
 }
@@ -138,14 +142,14 @@ fn behind_a_short_one() {
     d.constructors[3].minimum_length = 9;
     let short = listed("00000001: .short\n", 1, 6, false);
     let code = [0x13, 0x1f, 0x13, 0x13, 0x13, 0x13];
-    assert_eq!(list(&d, 0, 0, &code, 1, 17), short);
-    assert_eq!(list(&d, 0, 0, &code, 1, 16), listed("", 0, 1, true));
+    assert_eq!(list(&d, 0, 0, One, &code, 1, 17), short);
+    assert_eq!(list(&d, 0, 0, One, &code, 1, 16), listed("", 0, 1, true));
 }
 
 #[test]
 fn code_past_4096_bytes_is_listed() {
     let code = [0x1f; 70_000];
-    let last = list(&description_s(), 0, 0, &code, 69_999, 15);
+    let last = list(&description_s(), 0, 0, One, &code, 69_999, 15);
     assert_eq!(last, listed("0001116f: halt\n", 1, 70_000, false));
 }
 
@@ -154,8 +158,11 @@ fn the_longest_line() {
     let d = shows(&[255, 1]);
     let line = format!("00000000: {}\n", "x".repeat(256));
     assert_eq!(line.len(), 267);
-    assert_eq!(list(&d, 0, 0, &[0], 0, 267), listed(&line, 1, 1, false));
-    assert_eq!(list(&d, 0, 0, &[0], 0, 266), listed("", 0, 0, true));
+    assert_eq!(
+        list(&d, 0, 0, One, &[0], 0, 267),
+        listed(&line, 1, 1, false)
+    );
+    assert_eq!(list(&d, 0, 0, One, &[0], 0, 266), listed("", 0, 0, true));
 }
 
 #[test]
@@ -163,7 +170,7 @@ fn the_context() {
     let mut d = description_s();
     d.constructors[3].pattern.context_mask = 2;
     d.constructors[3].pattern.context_value = 2;
-    let shown = |context| list(&d, context, 0, &[0x1f], 0, 100).text;
+    let shown = |context| list(&d, context, 0, One, &[0x1f], 0, 100).text;
     assert_eq!(shown(2), b"00000000: halt\n");
     assert_eq!(shown(0), b"00000000: inc r15\n");
 }
@@ -173,11 +180,11 @@ fn the_context() {
 fn lent_bytes() {
     let s = bytes(&description_s());
     let mut lent = [b'~'; 40];
-    let answer = requests::list(&s, 0, 0, &CODE, 0, &mut lent);
+    let answer = requests::list(&s, 0, 0, 1, &CODE, 0, &mut lent);
     assert_eq!(answer.number_and_values(), (0, [38, 2, 2, 1]));
     assert_eq!(&lent, b"00000000: inc r3\n00000001: .byte 0x30\n~~");
     let mut lent = [b'~'; 40];
-    let answer = requests::list(&s[..215], 0, 0, &CODE, 0, &mut lent);
+    let answer = requests::list(&s[..215], 0, 0, 1, &CODE, 0, &mut lent);
     assert_eq!(answer.number_and_values(), (1, [6, 65_535, 0, 0]));
     assert_eq!(lent, [b'~'; 40]);
 }

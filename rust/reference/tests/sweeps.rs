@@ -2,10 +2,11 @@
 
 use generate::bytes;
 use generate::example::{description_s, field, literal, name};
+use reference::Alignment::One;
 use reference::{decode_text, requests, sweep, Description, End, Refusal};
 
 fn ends(code: &[u8], room: usize) -> (usize, usize, End) {
-    let swept = sweep(&description_s(), 0, 0, code, room);
+    let swept = sweep(&description_s(), 0, 0, One, code, room);
     (swept.rows.len(), swept.next, swept.end)
 }
 
@@ -22,7 +23,7 @@ fn ends_that_meet() {
 
 /// The answers of the rows, with enough room.
 fn answers(d: &Description, code: &[u8]) -> Vec<i64> {
-    let swept = sweep(d, 0, 0, code, code.len());
+    let swept = sweep(d, 0, 0, One, code, code.len());
     for row in swept.rows.iter().filter(|row| row[2] != 0) {
         assert_eq!((row[1], row[3]), (1, 65_535));
     }
@@ -65,7 +66,7 @@ fn lent_numbers() {
     let rows = [0, 1, 0, 1, 1, 1, 3, 65_535];
     for lent in 0..=16 {
         let mut numbers = [77; 16];
-        let answer = requests::sweep(&s, 0, 0, &code, &mut numbers[..lent]);
+        let answer = requests::sweep(&s, 0, 0, 1, &code, &mut numbers[..lent]);
         let room = lent / 4;
         let (end, written) = if room < 3 { (1, room) } else { (2, 2) };
         let values = [end, written as u64, written as u64, 0];
@@ -74,7 +75,7 @@ fn lent_numbers() {
         assert_eq!(numbers[4 * written..], [77; 16][4 * written..]);
     }
     let mut numbers = [77; 16];
-    let answer = requests::sweep(&s[..215], 0, 0, &code, &mut numbers);
+    let answer = requests::sweep(&s[..215], 0, 0, 1, &code, &mut numbers);
     assert_eq!(answer.number_and_values(), (1, [6, 65_535, 0, 0]));
     assert_eq!(numbers, [77; 16]);
 }

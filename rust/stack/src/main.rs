@@ -18,6 +18,8 @@ const TEXT: usize = 256;
 /// Any code of a byte or more does.
 const CODE: [u8; 16] = [0xfe; 16];
 
+const ALIGNMENT: u32 = 1;
+
 /// The depths that are shown. With a field in the innermost table, 31 is the
 /// deepest that has rows for all.
 const SHOWN: [usize; 4] = [1, 2, 16, 31];
@@ -77,12 +79,12 @@ fn text(description: &[u8]) -> usize {
 
 fn sweep(description: &[u8]) -> usize {
     let mut rows = [0; ROWS];
-    of(|| dookerand::sweep(description, 0, 0, &CODE, &mut rows))
+    of(|| dookerand::sweep(description, 0, 0, ALIGNMENT, &CODE, &mut rows))
 }
 
 fn list(description: &[u8]) -> usize {
     let mut text = [0; LINE];
-    of(|| dookerand::list_answer(description, 0, 0, &CODE, 0, &mut text))
+    of(|| dookerand::list_answer(description, 0, 0, ALIGNMENT, &CODE, 0, &mut text))
 }
 
 fn others() -> [(&'static str, usize); 5] {

@@ -3,11 +3,6 @@ use mathlib.Core.Path.{sym, _∙_}
 use borrow.Author.Needs.{needs}
 use Rattle.dookerand.proofs.dookerand_list.Statement.{statement}
 use Rattle.dookerand.proofs.dookerand_list.Tie as tie
-use Rattle.dookerand.proofs.dookerand_list.Reads as reads
-use Rattle.dookerand.proofs.dookerand_list.Lts as lts
-use Rattle.dookerand.proofs.full_number.Reads as full-number-reads
-use Rattle.dookerand.proofs.reject.Reads as reject-reads
-use Rattle.listing_text.proofs.list.Reads as list-reads
 
 list-requires : tie.Need-list-requires
 list-requires c κs = search needs
@@ -42,6 +37,12 @@ returns-2 c =
     let e = sym (earlier .list .ensures .0) ∙ c .before .before .before .listed2 .given .1 in
     (rw e (c .reject .ensures .0), (rw e (c .reject .ensures .1), earlier .list .ensures .1))
 
+returns-3 : tie.Need-returns-3
+returns-3 c =
+    let earlier = c .before .before .before .before .before .before in
+    let e = sym (earlier .list .ensures .0) ∙ c .before .before .listed3 .given .1 in
+    (rw e, (rw e, earlier .list .ensures .1))
+
 pub dookerand-list-spec : {M : Type 1} → statement M
 dookerand-list-spec =
     tie.close
@@ -51,7 +52,11 @@ dookerand-list-spec =
     full-number-requires
     enum-known-listed-2
     reject-requires
+    (λ c. search needs)
+    (λ c. search needs)
     same-length
     returns
     same-length-2
-    returns-2)
+    returns-2
+    (λ c. search needs)
+    returns-3)

@@ -3,11 +3,6 @@ use mathlib.Core.Path.{sym, _∙_}
 use borrow.Author.Needs.{needs}
 use Rattle.dookerand.proofs.dookerand_sweep.Statement.{statement}
 use Rattle.dookerand.proofs.dookerand_sweep.Tie as tie
-use Rattle.dookerand.proofs.dookerand_sweep.Reads as reads
-use Rattle.dookerand.proofs.dookerand_sweep.Lts as lts
-use Rattle.dookerand.proofs.end_number.Reads as end-number-reads
-use Rattle.dookerand.proofs.reject.Reads as reject-reads
-use Rattle.sweep.proofs.sweep.Reads as sweep-reads
 
 sweep-requires : tie.Need-sweep-requires
 sweep-requires c κs = search needs
@@ -42,6 +37,12 @@ returns-2 c =
     let e = sym (earlier .before .before .before .sweep .ensures .0) ∙ earlier .swept2 .given .1 in
     (rw e (c .reject .ensures .0), (rw e (c .reject .ensures .1), earlier .before .before .before .sweep .ensures .1))
 
+returns-3 : tie.Need-returns-3
+returns-3 c =
+    let earlier = c .before .before .before .before .before in
+    let e = sym (earlier .sweep .ensures .0) ∙ c .before .before .swept3 .given .1 in
+    (rw e, (rw e, earlier .sweep .ensures .1))
+
 pub dookerand-sweep-spec : {M : Type 1} → statement M
 dookerand-sweep-spec =
     tie.close
@@ -51,7 +52,11 @@ dookerand-sweep-spec =
     end-number-requires
     enum-known-swept-2
     reject-requires
+    (λ c. search needs)
+    (λ c. search needs)
     same-length
     returns
     same-length-2
-    returns-2)
+    returns-2
+    (λ c. search needs)
+    returns-3)

@@ -1,13 +1,9 @@
 -- `listing_lines::show_text` meets its contract. Assumes nothing.
 use Rattle.text.specs.Prints.{wholeText}
-use Rattle.listing_lines.proofs.Appending.{fitting-written, fitting-long, fitting-never}
+use Rattle.listing_lines.proofs.Fitting.{fitting-written, fitting-long, fitting-never}
 use borrow.Author.Needs.{needs}
 use Rattle.listing_lines.proofs.show_text.Statement.{statement}
 use Rattle.listing_lines.proofs.show_text.Tie as tie
-use Rattle.listing_lines.proofs.show_text.Reads as reads
-use Rattle.listing_lines.proofs.show_text.Lts as lts
-use Rattle.listing_lines.proofs.append.Reads as append-reads
-use Rattle.text.proofs.print_text.Reads as print-text-reads
 
 print-text-requires : tie.Need-print-text-requires
 print-text-requires c κs = search needs

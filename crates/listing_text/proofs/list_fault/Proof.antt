@@ -3,10 +3,6 @@ use Rattle.listing_text.proofs.Faults.{fault-behind, prefix-long, size-
 use borrow.Author.Needs.{needs}
 use Rattle.listing_text.proofs.list_fault.Statement.{statement}
 use Rattle.listing_text.proofs.list_fault.Tie as tie
-use Rattle.listing_text.proofs.list_fault.Reads as reads
-use Rattle.listing_text.proofs.list_fault.Lts as lts
-use Rattle.listing_lines.proofs.fault_line.Reads as fault-line-reads
-use Rattle.printing.proofs.put_bytes.Reads as put-bytes-reads
 
 fault-line-requires : tie.Need-fault-line-requires
 fault-line-requires c κs = search needs

@@ -1,19 +1,12 @@
 -- `listing_text::list_input` meets its contract. Assumes nothing.
-use mathlib.Core.Path.{_≡_, sym, ap, _∙_}
+use mathlib.Core.Path.{refl, sym, _∙_}
 use native.Mathlib.Omega.{arith}
-use Rattle.acceptance.specs.Acceptance.{acceptanceOf}
 use Rattle.acceptance.proofs.Facts.{accepted-formed}
-use Rattle.listing_text.specs.Listing.{inputWindow, descriptionPart, codePart}
+use Rattle.listing_text.specs.Listing.{inputWindow}
 use Rattle.listing_text.proofs.Splitting.{in-order, description-there, code-there}
 use borrow.Author.Needs.{needs}
 use Rattle.listing_text.proofs.list_input.Statement.{statement}
 use Rattle.listing_text.proofs.list_input.Tie as tie
-use Rattle.listing_text.proofs.list_input.Reads as reads
-use Rattle.listing_text.proofs.list_input.Lts as lts
-use Rattle.acceptance.proofs.accept.Reads as accept-reads
-use Rattle.listing_text.proofs.list_fault.Reads as list-fault-reads
-use Rattle.listing_text.proofs.list_in.Reads as list-in-reads
-use Rattle.listing_text.proofs.take_apart.Reads as take-apart-reads
 
 take-apart-requires : tie.Need-take-apart-requires
 take-apart-requires c κs = search needs
@@ -43,7 +36,7 @@ enum-known-acceptance : tie.Need-enum-known-acceptance
 enum-known-acceptance c = search needs
 
 list-in-requires : tie.Need-list-in-requires
-list-in-requires c κs = accepted-formed _ _ (sym (c .before .before .before .before .accept .ensures) ∙ c .before .before .acceptance .given .1)
+list-in-requires c κs = (accepted-formed _ _ (sym (c .before .before .before .before .accept .ensures) ∙ c .before .before .acceptance .given .1), refl)
 
 enum-known-acceptance-2 : tie.Need-enum-known-acceptance-2
 enum-known-acceptance-2 c = search needs

@@ -1,13 +1,8 @@
 -- `listing_text::take_apart` meets its contract. Assumes nothing.
-use native.Mathlib.Omega.{arith}
 use Rattle.listing_text.proofs.Splitting.{split-none, split-at}
 use borrow.Author.Needs.{needs}
 use Rattle.listing_text.proofs.take_apart.Statement.{statement}
 use Rattle.listing_text.proofs.take_apart.Tie as tie
-use Rattle.listing_text.proofs.take_apart.Reads as reads
-use Rattle.listing_text.proofs.take_apart.Lts as lts
-use Rattle.format.proofs.word.Reads as word-reads
-use Rattle.listing_text.proofs.smaller.Reads as smaller-reads
 
 returns : tie.Need-returns
 returns c = split-none _ (c .if1 .taken)

@@ -5,45 +5,44 @@ use Rattle.sweep.specs.Sweep.{sweepOf, bufferAfter}
 use borrow.Author.Needs.{needs}
 use Rattle.sweep.proofs.sweep.Statement.{statement}
 use Rattle.sweep.proofs.sweep.Tie as tie
-use Rattle.sweep.proofs.sweep.Reads as reads
-use Rattle.sweep.proofs.sweep.Lts as lts
-use Rattle.acceptance.proofs.accept.Reads as accept-reads
-use Rattle.sweep.proofs.sweep_in.Reads as sweep-in-reads
-
-accept-requires : tie.Need-accept-requires
-accept-requires c κs = search needs
-
-enum-known-acceptance : tie.Need-enum-known-acceptance
-enum-known-acceptance c = search needs
 
 sweep-in-requires : tie.Need-sweep-in-requires
-sweep-in-requires c κs = accepted-formed _ _ (sym (c .before .before .before .before .accept .ensures) ∙ c .before .before .acceptance .given .1)
-
-enum-known-acceptance-2 : tie.Need-enum-known-acceptance-2
-enum-known-acceptance-2 c = search needs
-
-same-length : tie.Need-same-length
-same-length c = search needs
+sweep-in-requires c κs =
+    let asked = c .before .before in
+    let accepted = asked .before .before in
+    (accepted-formed _ _ (sym (accepted .before .before .accept .ensures) ∙ accepted .acceptance .given .1), sym (asked .is-alignment .ensures) ∙ c .before .if1 .taken)
 
 returns : tie.Need-returns
 unfolding sweepOf bufferAfter
 returns c =
-    let earlier = c .before .before .before .before in
-    let e = sym (earlier .before .before .accept .ensures) ∙ earlier .acceptance .given .1 in
-    (rw e (c .before .sweep-in .ensures .answer), rw e (c .before .sweep-in .ensures .rows))
+    let asked = c .before .before .before .before in
+    let accepted = asked .before .before in
+    let e = sym (accepted .before .before .accept .ensures) ∙ accepted .acceptance .given .1 in
+    let n = sym (asked .is-alignment .ensures) ∙ c .before .before .before .if1 .taken in
+    (rw (e, n) (c .before .sweep-in .ensures .answer), rw (e, n) (c .before .sweep-in .ensures .rows))
 
 returns-2 : tie.Need-returns-2
 unfolding sweepOf bufferAfter
-returns-2 c = let e = sym (c .before .before .before .accept .ensures) ∙ c .before .acceptance2 .given .1 in (rw e, rw e)
+returns-2 c =
+    let accepted = c .before .before .before in
+    let e = sym (accepted .before .before .accept .ensures) ∙ accepted .acceptance .given .1 in
+    let n = sym (c .before .is-alignment .ensures) ∙ c .if1 .left in
+    (rw (e, n), rw (e, n))
+
+returns-3 : tie.Need-returns-3
+unfolding sweepOf bufferAfter
+returns-3 c = let e = sym (c .before .before .before .accept .ensures) ∙ c .before .acceptance2 .given .1 in (rw e, rw e)
 
 pub sweep-spec : {M : Type 1} → statement M
 sweep-spec =
     tie.close
     (tie.spec
-    accept-requires
-    enum-known-acceptance
+    (λ c κs. search needs)
+    (λ c. search needs)
+    (λ c κs. search needs)
     sweep-in-requires
-    enum-known-acceptance-2
-    same-length
+    (λ c. search needs)
     returns
-    returns-2)
+    (λ c. search needs)
+    returns-2
+    returns-3)

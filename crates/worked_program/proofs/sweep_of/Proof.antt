@@ -3,13 +3,6 @@ use lib.Seq.{length-take-le}
 use borrow.Author.Needs.{needs}
 use Rattle.worked_program.proofs.sweep_of.Statement.{statement}
 use Rattle.worked_program.proofs.sweep_of.Tie as tie
-use Rattle.worked_program.proofs.sweep_of.Reads as reads
-use Rattle.worked_program.proofs.sweep_of.Lts as lts
-use Rattle.sweep.proofs.sweep.Reads as sweep-reads
-use Rattle.worked_program.proofs.line.Reads as line-reads
-use Rattle.worked_program.proofs.number.Reads as number-reads
-use Rattle.worked_program.proofs.rejected.Reads as rejected-reads
-use Rattle.worked_program.proofs.why_ended.Reads as why-ended-reads
 
 line-requires : tie.Need-line-requires
 line-requires c κs = search needs
@@ -47,6 +40,18 @@ enum-known-swept-2 c = search needs
 rejected-requires : tie.Need-rejected-requires
 rejected-requires c κs = search needs
 
+enum-known-swept-3 : tie.Need-enum-known-swept-3
+enum-known-swept-3 c = search needs
+
+number-requires-3 : tie.Need-number-requires-3
+number-requires-3 c κs = search needs
+
+cast-number : tie.Need-cast-number
+cast-number c = search needs
+
+number-requires-4 : tie.Need-number-requires-4
+number-requires-4 c κs = search needs
+
 slice-aggregate-line : tie.Need-slice-aggregate-line
 slice-aggregate-line c = search needs
 
@@ -72,6 +77,10 @@ sweep-of-spec =
     number-requires-2
     enum-known-swept-2
     rejected-requires
+    enum-known-swept-3
+    number-requires-3
+    cast-number
+    number-requires-4
     slice-aggregate-line
     line-requires-2
     returns)

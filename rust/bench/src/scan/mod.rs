@@ -32,8 +32,9 @@ const TOO_FAR: u8 = 6;
 const TOO_MANY_ROWS: u8 = 7;
 const ROOT_LENGTH_ZERO: u8 = 8;
 const OUTSIDE: u8 = 13;
+const NO_MULTIPLE: u8 = 14;
 
-/// An answer from 2 to 8, or 13, with its place and table.
+/// An answer from 2 to 8, 13 or 14, with its place and table.
 #[derive(Clone, Copy, Debug, PartialEq, Eq)]
 pub struct Refusal {
     pub number: u8,
@@ -149,14 +150,16 @@ impl<const GROUP: usize> Scan<GROUP> {
     }
 
     /// Sweeps the code into rows, and gives the end, the rows written and the
-    /// next byte.
+    /// next byte. The alignment is 1, 2, 4 or 8.
     pub fn sweep(
         &self,
         context: u32,
         address: u32,
+        alignment: u32,
         code: &[u8],
         lent: &mut [i64],
     ) -> (End, usize, usize) {
+        let mask = i64::from(alignment) - 1;
         let (mut rows, _) = lent.as_chunks_mut::<ROW_NUMBERS>();
         let (mut written, mut next) = (0, 0);
         let mut computed = Vec::new();
@@ -176,15 +179,24 @@ impl<const GROUP: usize> Scan<GROUP> {
                 rows: &mut NoRows,
                 computed: &mut computed,
             };
-            let (length, answer, constructor) = match self.instruction(&mut walk) {
+            let (length, answer, constructor) = match self.aligned(&mut walk, mask) {
                 Ok((constructor, length)) => (length, 0, constructor as i64),
                 Err(Refusal { number: SHORT, .. }) => return (End::Short, written, next),
-                Err(refusal) => (1, refusal.number.into(), NO_CONSTRUCTOR),
+                Err(refusal) => (walk.gap(mask), refusal.number.into(), NO_CONSTRUCTOR),
             };
             *row = [next as i64, length as i64, answer, constructor];
             rows = rest;
             written += 1;
             next += length;
+        }
+    }
+
+    /// The same as for any address, if this one has none of the mask's bits.
+    #[inline(always)]
+    fn aligned<R: Rows>(&self, walk: &mut Walk<R>, mask: i64) -> Result<(usize, usize), Refusal> {
+        match walk.address & mask {
+            0 => self.instruction(walk),
+            _ => Err(refusal(NO_MULTIPLE, 0)),
         }
     }
 
@@ -322,6 +334,13 @@ impl<const GROUP: usize> Scan<GROUP> {
 }
 
 impl<R> Walk<'_, R> {
+    /// How many bytes a gap has: to the next address without the mask's bits, or
+    /// to the code's end.
+    fn gap(&self, mask: i64) -> usize {
+        let to_next = mask + 1 - (self.address & mask);
+        self.code.len().min(to_next as usize)
+    }
+
     #[inline(always)]
     fn next_row(&mut self) -> Result<usize, Refusal> {
         if self.used == ROWS {
@@ -386,6 +405,7 @@ mod tests {
         with_rows, Leaning, Rng, Size, EDGE_ADDRESSES,
     };
     use reference::Addresses;
+    use reference::Alignment::{Eight, Four, One, Two};
 
     use super::*;
 
@@ -421,13 +441,16 @@ mod tests {
                 }
             }
         }
-        for lent in [4 * code.len(), 2 * code.len() + 3, 0] {
-            let mut rows = vec![0; lent];
-            let (end, written, next) = scan.sweep(context, address, code, &mut rows);
-            let expected = reference::sweep(d, context, address, code, lent / 4);
-            assert_eq!(format!("{end:?}"), format!("{:?}", expected.end));
-            assert_eq!((written, next), (expected.rows.len(), expected.next));
-            assert_eq!(rows[..4 * written], *expected.rows.as_flattened());
+        for alignment in [One, Two, Four, Eight] {
+            for lent in [4 * code.len(), 2 * code.len() + 3, 0] {
+                let mut rows = vec![0; lent];
+                let number = alignment as u32;
+                let (end, written, next) = scan.sweep(context, address, number, code, &mut rows);
+                let expected = reference::sweep(d, context, address, alignment, code, lent / 4);
+                assert_eq!(format!("{end:?}"), format!("{:?}", expected.end));
+                assert_eq!((written, next), (expected.rows.len(), expected.next));
+                assert_eq!(rows[..4 * written], *expected.rows.as_flattened());
+            }
         }
     }
 

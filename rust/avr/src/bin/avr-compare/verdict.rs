@@ -1,6 +1,6 @@
 //! Judging one instruction.
 
-use reference::{Description, Refusal};
+use reference::{Alignment, Description, Refusal};
 
 use crate::objdump::{Comment, Line};
 
@@ -9,7 +9,7 @@ pub enum Verdict {
     Same,
     /// The same but for a comment that is not shown.
     WithoutComment,
-    /// A word that is no instruction: objdump takes it as two bytes of data.
+    /// A word that is no instruction: a gap here, data for objdump.
     NoMatch,
     /// A jump by twelve bits: the same but for the displacement, which is in
     /// hexadecimal where objdump has it in decimal.
@@ -25,10 +25,13 @@ pub enum Verdict {
 /// Compares what the description says of two words with objdump's line.
 pub fn judge(description: &Description, words: &[u16; 2], theirs: &Line) -> Verdict {
     let code = words.map(u16::to_le_bytes);
-    match decoded(description, theirs.address, code.as_flattened()) {
+    let code = code.as_flattened();
+    match decoded(description, theirs.address, code) {
         Ok((length, text)) => judge_decoded(length, text, theirs),
         Err(Refusal::NoMatch { place: 0, table })
-            if table == description.root() && is_data(words[0], theirs) =>
+            if table == description.root()
+                && is_data(words[0], theirs)
+                && gap(description, theirs.address, code) == theirs.length =>
         {
             Verdict::NoMatch
         }
@@ -53,6 +56,12 @@ fn decoded(
     ))
 }
 
+/// How many bytes a sweep by words takes at once where no instruction is.
+fn gap(description: &Description, address: u32, code: &[u8]) -> usize {
+    let swept = reference::sweep(description, 0, address, Alignment::Two, code, 1);
+    swept.rows[0][1] as usize
+}
+
 fn judge_decoded(length: usize, text: String, theirs: &Line) -> Verdict {
     let same_length = length == theirs.length;
     let may_miss = matches!(theirs.comment, Comment::Number | Comment::Undefined);
@@ -74,7 +83,7 @@ fn judge_decoded(length: usize, text: String, theirs: &Line) -> Verdict {
 
 fn is_data(opcode: u16, theirs: &Line) -> bool {
     let is_word = theirs.text == format!(".word {opcode:#06x}");
-    is_word && theirs.length == 2 && theirs.comment == Comment::Data
+    is_word && theirs.comment == Comment::Data
 }
 
 fn mnemonic(text: &str) -> &str {
@@ -143,6 +152,7 @@ mod tests {
             (rjmp, "01 c0 00 00 \trjmp\t.+2  \t;  0xc", (false, true)),
             ([0xf3f9, 0], "f9 f3 \tbreq\t.-2  \t;  0xa", (true, true)),
             (no, "01 00 \t.word\t0x0002\t; ????", (false, false)),
+            (no, "01 \t.word\t0x0001\t; ????", (false, false)),
             (no, "01 00 \tnop", (false, false)),
             ([0, 0], "00 00 \t.word\t0x0000\t; ????", (true, false)),
         ];

@@ -1,0 +1,2 @@
+-- Laws of alignment.
+pub mod Laws

@@ -1,0 +1,4 @@
+-- Laws of a line's parts.
+pub mod Appending
+pub mod Gaps
+mod Made

@@ -1,0 +1,4 @@
+-- Theorems about a sweep.
+pub mod Facts
+pub mod Longer
+pub mod Unaligned

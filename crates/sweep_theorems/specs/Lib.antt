@@ -1,0 +1,3 @@
+-- What the theorems say of a sweep.
+pub mod Facts
+pub mod Unaligned

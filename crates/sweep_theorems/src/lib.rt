@@ -1,0 +1,1 @@
+// What is proved of a sweep's rows, over any code and longer code. No code.
