@@ -95,6 +95,7 @@ pub fn put_line(shown: &[u8], here: usize, line: &mut [u8]) -> usize
     append(b"\n", line, end)
 }
 
+// ".byte " and the first byte of a gap.
 fn first_byte(byte: u8) -> [u8; 10]
     ensures { λ r. ⌜ r ≡ byteWord ++ byteText byte ⌝ }
 {
@@ -113,6 +114,7 @@ fn first_byte(byte: u8) -> [u8; 10]
     ]
 }
 
+// A further byte of a gap, behind ", ".
 fn next_byte(byte: u8) -> [u8; 6]
     ensures { λ r. ⌜ r ≡ 44 ∷ 32 ∷ byteText byte ⌝ }
 {
@@ -120,7 +122,7 @@ fn next_byte(byte: u8) -> [u8; 6]
     [b',', b' ', b'0', b'x', digit(n / 16), digit(n)]
 }
 
-// Each of these behind the bytes already written.
+// The further bytes of a gap, behind the bytes already written.
 fn append_bytes(bytes: &[u8], out: &mut [u8], at: usize) -> usize
     requires { ⌜ at + 6 * length (now bytes) ≤ length (now out) ⌝ }
     ensures { λ r. ⌜ Appended at (bytesBehind (now (bytes .entry))) (now (out .entry)) (now (out .exit)) r ⌝ }

@@ -81,7 +81,7 @@ step-aligned d c a u s r e = go (stands u (a + r .start) (length s - r .start) (
   where
     go : Stands u (a + r .start) (length s - r .start) (instructionOf d c (a + r .start) (drop (r .start) s)) (r .length) (r .answer) (r .constructor) → RowAligned a u r
     go (decoded t st p h x k) = record { done = λ z. h; between = rw (x, h) }
-    go (gap-here y p f h x l k) = record { done = λ z. h; between = rw (h) (ne-eqb (r .answer) noMultiple (λ z. omega (arith, refusal-numbers y .1))) }
+    go (gap-here y p f h x l k) = record { done = λ z. h; between = rw h (ne-eqb (r .answer) noMultiple (λ z. omega (arith, refusal-numbers y .1))) }
     go (between h x l k) = record { done = λ z. absurd (omega arith); between = rw (x, h) }
 
 -- so of every row that tiles the code
