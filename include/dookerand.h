@@ -34,7 +34,9 @@ enum dookerand_answer {
     DOOKERAND_BAD_TREE = 11,         /* the tree is not well formed */
     DOOKERAND_NO_TABLE = 12,         /* no constructor has this table, or the alignment is not 1, 2, 4 or 8 */
     DOOKERAND_OUTSIDE = 13,          /* a computed value is outside signed 64 bits */
-    DOOKERAND_NO_MULTIPLE = 14       /* a sweep's place is no multiple of the alignment; in its rows alone */
+    DOOKERAND_NO_MULTIPLE = 14,      /* a sweep's place is no multiple of the alignment; in its rows alone */
+    DOOKERAND_CLASHING = 15,         /* two constructors of the table clash */
+    DOOKERAND_TREE_TOO_LARGE = 16    /* the tree has more than 4,095 nodes, or more bytes than are lent */
 };
 
 /* The first number of a row of dookerand_decode. */
@@ -56,11 +58,13 @@ enum dookerand_end {
 #define DOOKERAND_VALUES 4
 #define DOOKERAND_ROW_NUMBERS 4
 
-/* What always suffices: numbers for the rows of dookerand_decode, bytes for the text of dookerand_text and for a line of
- * dookerand_list (16 + 2 + 256 + 1; an address of more than eight digits is rare, but no address wraps). */
+/* What always suffices: numbers for the rows of dookerand_decode, bytes for the text of dookerand_text, for a line of
+ * dookerand_list (16 + 2 + 256 + 1; an address of more than eight digits is rare, but no address wraps) and for a tree
+ * of dookerand_build (2 + 4 * 4095). */
 #define DOOKERAND_DECODE_ROOM 128
 #define DOOKERAND_TEXT_ROOM 256
 #define DOOKERAND_LINE_ROOM 275
+#define DOOKERAND_TREE_ROOM 16382
 
 /* Stands for no record (the whole section), no constructor (a gap of a sweep, a leaf of a tree) and no single node. */
 #define DOOKERAND_NONE 65535
@@ -82,6 +86,14 @@ uint32_t dookerand_clash(const uint8_t *description, size_t description_len, uin
  * 1: section, record. 12: the table number. 11: the first bad node, or 65,535. */
 uint32_t dookerand_tree(const uint8_t *description, size_t description_len, uint32_t table, const uint8_t *tree,
                         size_t tree_len, uint64_t values[4]);
+
+/* Builds the decision tree of one table that tests its lowest bits first, byte bits before context bits. The check
+ * above accepts what is written. `tree_len` counts bytes, 16,382 always suffice, and `tree` overlaps no other slice.
+ * Only answer 0 writes there: its bytes, from tree[0] on, and nothing behind them. 0: the bytes written. 1: section,
+ * record. 12: the table number. 15: the pair of constructors that clash. 16, which has no value: the tree has more than
+ * 4,095 nodes or more bytes than are lent. */
+uint32_t dookerand_build(const uint8_t *description, size_t description_len, uint32_t table, uint8_t *tree,
+                         size_t tree_len, uint64_t values[4]);
 
 /* Decodes the instruction at the code's start, which has this address, to rows of four numbers each, in the order of
  * the walk: 0, constructor, start, length; 1, field, start, value; 2, field, start, name number; 3, expression, start,

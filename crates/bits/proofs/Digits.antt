@@ -1,16 +1,12 @@
 -- Single bits: a bit is 0 or 1, the machine's operations bit by bit, and numbers with the same bits.
 use Prim.Native.Nat.{ℕ, zero, suc, _+_, _-_, _*_, _/_, _%_, _^_, _<_, _≤_, min, max}
-use mathlib.Core.Bool.{Bool, true, false, cond, not, _&&_, _||_}
-use mathlib.Core.Path.{_≡_, refl, sym, ap, subst, _∙_}
+use mathlib.Core.Path.{_≡_, refl, sym, ap, _∙_}
 use native.Mathlib.Nat.{div-lt-iff-lt-mul, mod-eq-of-lt, mul-comm}
 use native.Mathlib.Numerals.{one-add}
-use native.Mathlib.Decide.{decLt}
 use native.Mathlib.Omega.{arith}
-use borrow.Author.Tests.{lt-ltb, le-ltb}
 use lib.Bits.{bitAnd, bitOr, bitXor, differ, and-shr, or-shr, xor-shr, and-step, or-step, xor-step}
-use lib.Dec.{eqb, ltb}
 use lib.Pow.{pow-pos, shr-lt, shr-shr, high, low, field, mod-mod-pow}
-use Rattle.bits.specs.Bits.{bit, isSet}
+use Rattle.bits.specs.Bits.{bit}
 
 pub bit-small : (x k : ℕ) → bit x k < 2
 bit-small x k = omega arith

@@ -1,3 +1,4 @@
 -- Laws of bits.
 pub mod Digits
 pub mod Words
+pub mod Single

@@ -1,7 +1,7 @@
 -- Whole words: what one test of a word says of every bit.
-use Prim.Native.Nat.{ℕ, zero, suc, _+_, _-_, _*_, _/_, _%_, _^_, _<_, _≤_, min, max}
-use mathlib.Core.Bool.{Bool, true, false, cond, not, _&&_, _||_}
-use mathlib.Core.Path.{_≡_, refl, sym, ap, _∙_}
+use Prim.Native.Nat.{ℕ, zero, suc, _-_, _/_, _%_, _^_, _<_, min, max}
+use mathlib.Core.Bool.{Bool, true, not, _&&_, _||_}
+use mathlib.Core.Path.{_≡_, refl, sym, _∙_}
 use native.Mathlib.Nat.{zero-div, mod-lt, mod-eq-of-lt}
 use native.Mathlib.Numerals.{one-add}
 use native.Mathlib.Omega.{arith}
@@ -119,3 +119,11 @@ set-and a b k =
     (either (λ x. eqb (min x (bit b k)) 1 ≡ (eqb x 1 && eqb (bit b k) 1))
     (either (λ y. eqb (min 0 y) 1 ≡ (eqb 0 1 && eqb y 1)) refl refl (bit b k) (bit-small b k))
     (either (λ y. eqb (min 1 y) 1 ≡ (eqb 1 1 && eqb y 1)) refl refl (bit b k) (bit-small b k)) (bit a k) (bit-small a k))
+
+-- .. and of their union
+pub set-or : (a b k : ℕ) → isSet (bitOr a b) k ≡ (isSet a k || isSet b k)
+set-or a b k =
+    rw (bit-or a b k)
+    (either (λ x. eqb (max x (bit b k)) 1 ≡ (eqb x 1 || eqb (bit b k) 1))
+    (either (λ y. eqb (max 0 y) 1 ≡ (eqb 0 1 || eqb y 1)) refl refl (bit b k) (bit-small b k))
+    (either (λ y. eqb (max 1 y) 1 ≡ (eqb 1 1 || eqb y 1)) refl refl (bit b k) (bit-small b k)) (bit a k) (bit-small a k))

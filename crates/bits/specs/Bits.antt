@@ -1,6 +1,6 @@
 -- A number's bits; bit 0 is the lowest.
 use Prim.Native.Nat.{ℕ, zero, suc, _+_, _/_, _%_, _^_}
-use mathlib.Core.Bool.{Bool, cond}
+use mathlib.Core.Bool.{Bool}
 use lib.Dec.{eqb}
 
 abbrev pub bit : ℕ → ℕ → ℕ

@@ -38,7 +38,7 @@ pub fn row(desc: &[u8], layout: Layout, first: usize, j: usize) -> Pattern
 }
 
 // The same by the constructors' section alone: choosing asks for nothing else of a layout.
-fn pattern_in(desc: &[u8], constructors: Section, first: usize, j: usize) -> Pattern
+pub fn pattern_in(desc: &[u8], constructors: Section, first: usize, j: usize) -> Pattern
     requires { ⌜ inside (now desc) constructorBytes constructors ⌝ }
     requires { ⌜ first + j < constructors .count ⌝ }
     ensures { λ r. ⌜ r ≡ patternIn (now (desc .entry)) constructors first j ⌝ }

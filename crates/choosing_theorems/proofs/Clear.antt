@@ -104,6 +104,22 @@ one-pattern a b e =
       contextvalue = eqb-true (a .contextvalue) (b .contextvalue) u i;
     }
 
+-- in a table without a clash no two records lie inside each other: they would be equal
+module _ (at : ℕ → Pattern) (n : ℕ) (sound : (i : ℕ) → i < n → ValidPattern (at i)) (clear : clashOf at n ≡ Clear) where
+  before-apart : (i j : ℕ) → i < j → j < n → inside (at i) (at j) ≡ true → inside (at j) (at i) ≡ true → ⊥
+  unfolding clashing
+  before-apart i j o l p q =
+      let clash : clashing at n i j ≡ true = rw (twins (at i) (at j) (sound i (omega arith)) (sound j l) p q) in
+      false≢true (sym (clear-pairs at n clear i j o l) ∙ clash)
+
+  pub apart : (i j : ℕ) → i < n → j < n → (i ≡ j → ⊥) → inside (at i) (at j) ≡ true → inside (at j) (at i) ≡ false
+  apart i j h l d p = go (inside (at j) (at i)) refl (decLt i j)
+    where
+      go : (b : Bool) → inside (at j) (at i) ≡ b → Dec (i < j) → b ≡ false
+      go false q o = refl
+      go true q (yes o) = absurd (before-apart i j o l p q)
+      go true q (no o) = absurd (before-apart j i (omega (arith, d)) h q p)
+
 -- a table without a clash
 module _ (at : ℕ → Pattern) (n : ℕ) (s : List ℕ) (c : ℕ) (sound : (i : ℕ) → i < n → ValidPattern (at i)) (clear : clashOf at n ≡ Clear) where
   -- a matching record inside both i and j
@@ -212,13 +228,6 @@ module _ (at : ℕ → Pattern) (n : ℕ) (s : List ℕ) (c : ℕ) (sound : (i :
             below = upto (r .it) (r .below) (λ w. absurd (false≢true (sym q ∙ w)));
           }
 
-  -- no two records lie inside each other: they would be equal
-  apart : (i j : ℕ) → i < j → j < n → inside (at i) (at j) ≡ true → inside (at j) (at i) ≡ true → ⊥
-  unfolding clashing
-  apart i j o l p q =
-      let clash : clashing at n i j ≡ true = rw (twins (at i) (at j) (sound i (omega arith)) (sound j l) p q) in
-      false≢true (sym (clear-pairs at n clear i j o l) ∙ clash)
-
   -- where j matches, the table has a strict one, which lies inside j
   pub record Took (j : ℕ) : Type 0 where
     pub it : ℕ
@@ -234,19 +243,10 @@ module _ (at : ℕ → Pattern) (n : ℕ) (s : List ℕ) (c : ℕ) (sound : (i :
             record {
               within = r .within;
               matches = r .matches;
-              above = λ k l d m. (r .below k l m, other r k l d m (inside (at k) (at (r .it))) refl);
+              above = λ k l d m. (r .below k l m, apart at n sound clear (r .it) k (r .within) l (λ e. d (sym e)) (r .below k l m));
             };
         low = r .low;
       }
-    where
-      other : (r : Least j n) (k : ℕ) → k < n → (k ≡ r .it → ⊥) → matching at n s c k ≡ true
-          → (b : Bool) → inside (at k) (at (r .it)) ≡ b → b ≡ false
-      other r k l d m true q = absurd (go (decLt k (r .it)))
-        where
-          go : Dec (k < r .it) → ⊥
-          go (yes o) = apart k (r .it) o (r .within) q (r .below k l m)
-          go (no o) = apart (r .it) k (omega arith) l (r .below k l m) q
-      other r k l d m false q = refl
 
   -- "A clear table is never ambiguous."
   pub never-ambiguous : choose at n s c ≡ Ambiguous → ⊥

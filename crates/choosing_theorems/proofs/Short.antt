@@ -26,7 +26,7 @@ use Rattle.format.specs.declared.Pattern.{Pattern}
 use Rattle.patterns.specs.Matching.{byteBit, present, matches, agrees, masksMissing, cutOff}
 use Rattle.choosing_theorems.specs.Continuing.{Differ}
 use Rattle.choosing_theorems.proofs.Clear.{Took, took}
-use Rattle.choosing_theorems.proofs.Fits.{InBytes, InWord, Fits, Shown, Missing, missing-at, inside-fits, matches-fits, fits-matches, agrees-fits}
+use Rattle.choosing_theorems.proofs.Fits.{InWord, Fits, Shown, Missing, missing-at, inside-fits, matches-fits, fits-matches, agrees-fits}
 use Rattle.choosing_theorems.proofs.None.{none-of}
 use Rattle.choosing_theorems.proofs.Stays.{byte-more, stays}
 use Rattle.choosing_theorems.proofs.Taken.{Answer, cut, none, one, torn, answer, choose-taken, taken-strict}

@@ -1,4 +1,4 @@
-// The C face. Each function returns the answer's number in document 01's table and sets all four values.
+// The C face. Each function returns the answer's number in the tables of documents 01 and 02 and sets all four values.
 use acceptance::Acceptance;
 use acceptance::Rejection;
 use clash_check::ClashAnswer;
@@ -9,6 +9,7 @@ use sweep::End;
 use sweep::Swept;
 use table_query::Asked;
 use text_decoding::Texted;
+use tree_building::Built;
 use tree_check::Answer;
 ghost use mathlib.Core.Path.{_≡_};
 ghost use lib.ListN.{length};
@@ -20,6 +21,8 @@ ghost use Rattle.table_query.specs.Asking.{askOf};
 ghost use Rattle.clash_check.specs.Entry as clashing;
 ghost use Rattle.clash_check.specs.Entry.{clashAnswer};
 ghost use Rattle.tree_check.specs.Entry.{Reported};
+ghost use Rattle.tree_building.specs.Building as building;
+ghost use Rattle.tree_building.specs.Building.{buildOf, buildAfter};
 ghost use Rattle.decoding.specs.Decoding as decoding;
 ghost use Rattle.decoding.specs.Decoding.{decodeOf, rowsAfter};
 ghost use Rattle.text_decoding.specs.TextDecoding as texting;
@@ -159,6 +162,39 @@ pub extern "C" fn dookerand_tree(desc: &[u8], table: u32, tree: &[u8], values: &
         Answer::BadTree(node) => {
             *values = [node as u64, 0, 0, 0];
             11
+        }
+    }
+}
+
+#[no_mangle]
+pub extern "C" fn dookerand_build(
+    desc: &[u8],
+    table: u32,
+    tree: &mut [u8],
+    values: &mut [u64; 4],
+) -> u32
+    ensures { λ r. ⌜ r ≡ building.numberOf (buildOf (now (desc .entry)) table (length (now (tree .entry)))) ⌝ }
+    ensures { λ _. ⌜ now (values .exit) ≡ building.valuesOf (buildOf (now (desc .entry)) table (length (now (tree .entry)))) ⌝ }
+    ensures { λ _. ⌜ now (tree .exit) ≡ buildAfter (now (desc .entry)) table (now (tree .entry)) ⌝ }
+{
+    let built = tree_building::build(desc, table, tree);
+    match built {
+        Built::Done(written) => {
+            *values = [written as u64, 0, 0, 0];
+            0
+        }
+        Built::Rejected(rejection) => reject(rejection, values),
+        Built::NoTable(t) => {
+            *values = [t as u64, 0, 0, 0];
+            12
+        }
+        Built::Clashes(i, j) => {
+            *values = [i as u64, j as u64, 0, 0];
+            15
+        }
+        Built::TooLarge => {
+            *values = [0, 0, 0, 0];
+            16
         }
     }
 }

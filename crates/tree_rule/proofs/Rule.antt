@@ -51,15 +51,15 @@ pub record Example (first : ℕ) (at : ℕ → Pattern) (n : ℕ) (p : Pattern) 
 module _ (first : ℕ) (at : ℕ → Pattern) (n : ℕ) (sound : (j : ℕ) → j < n → ValidPattern (at j)) (low : first + n ≤ 512)
     (p : Pattern) (path : ValidPattern p) (v : ℕ) where
   -- the rule's three cases
-  own-case : (j : ℕ) → first + j ≡ v → showsWrong first at p v j ≡ not (inside p (at j))
+  pub own-case : (j : ℕ) → first + j ≡ v → showsWrong first at p v j ≡ not (inside p (at j))
   unfolding showsWrong refutes
   own-case j e = rw (eq-eqb (first + j) v e)
 
-  none-case : (j : ℕ) → j < n → v ≡ noPlace → showsWrong first at p v j ≡ overlap p (at j)
+  pub none-case : (j : ℕ) → j < n → v ≡ noPlace → showsWrong first at p v j ≡ overlap p (at j)
   unfolding showsWrong refutes
   none-case j h e = rw (ne-eqb (first + j) v (λ q. omega arith), eq-eqb v noPlace e) (and-yes (overlap p (at j)))
 
-  named-case : (j t : ℕ) → v ≡ first + t → t < n → (j ≡ t → ⊥)
+  pub named-case : (j t : ℕ) → v ≡ first + t → t < n → (j ≡ t → ⊥)
       → showsWrong first at p v j ≡ (overlap p (at j) && not (inside (at t) (at j) && not (inside (at j) (at t))))
   unfolding showsWrong refutes
   named-case j t e h d =

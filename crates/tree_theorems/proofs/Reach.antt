@@ -2,19 +2,19 @@
 use Prim.Native.Nat.{ℕ, zero, suc, _+_, _<_, _≤_}
 use mathlib.Core.Bool.{Bool, true, false, cond, _&&_}
 use mathlib.Core.List.{List}
-use mathlib.Core.Logic.{_⊎_, ⊎-elim}
-use mathlib.Core.Path.{_≡_, refl, sym, ap, _∙_}
+use mathlib.Core.Logic.{⊎-elim}
+use mathlib.Core.Path.{_≡_, refl, sym}
 use native.Mathlib.Decide.{decLt, ℕ-discrete}
 use native.Mathlib.Omega.{arith}
 use borrow.Author.Tests.{eq-eqb, ne-eqb, lt-ltb, le-ltb}
-use lib.Dec.{eqb, ltb, lit<}
+use lib.Dec.{eqb, lit<}
 use Rattle.lists.proofs.Bools.{and-no, and-yes}
-use Rattle.bits.specs.Bits.{bit, isSet}
+use Rattle.bits.specs.Bits.{bit}
 use Rattle.bits.proofs.Digits.{bit-small}
 use Rattle.format.specs.declared.Pattern.{Pattern}
 use Rattle.patterns.specs.Matching.{byteBit, matches}
 use Rattle.choosing_spec.specs.ValidPattern.{ValidPattern}
-use Rattle.tree_spec.specs.Nodes.{countOf, kindAt, bitAt, placeAt}
+use Rattle.tree_spec.specs.Nodes.{kindAt, bitAt, placeAt}
 use Rattle.tree_spec.specs.Form.{side, nodeOk}
 use Rattle.tree_spec.specs.Reach.{testedBit, reachFrom, Input}
 use Rattle.tree_theorems.specs.Path.{pathFrom}

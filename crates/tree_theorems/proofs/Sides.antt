@@ -1,64 +1,35 @@
 -- One test more on a path: an input matches the longer path exactly where it matches the shorter one and has the tested bit.
-use Prim.Native.Nat.{ℕ, zero, _+_, _-_, _*_, _/_, _%_, _^_, _<_, _≤_, min, max}
-use mathlib.Core.Bool.{Bool, true, false, cond, _&&_, _||_, false≢true}
+use Prim.Native.Nat.{ℕ, _-_, _*_, _/_, _^_, _<_, _≤_, min}
+use mathlib.Core.Bool.{true, false, _&&_, false≢true}
 use mathlib.Core.List.{List}
 use mathlib.Core.Path.{_≡_, refl, sym, ap, _∙_}
-use native.Mathlib.Decide.{ℕ-discrete, decLt}
-use native.Mathlib.Nat.{zero-div, div-eq-of-lt, mul-comm, one-mul, mul-le-mul-right}
+use native.Mathlib.Decide.{ℕ-discrete}
+use native.Mathlib.Nat.{one-mul, mul-le-mul-right}
 use native.Mathlib.Omega.{arith}
-use borrow.Author.Tests.{eq-eqb, eqb-true, lt-ltb}
+use borrow.Author.Tests.{eq-eqb, ne-eqb, eqb-true, lt-ltb}
 use lib.Bits.{bitAnd, bitOr, and-lt, or-lt}
 use lib.Dec.{eqb, lit<}
 use lib.ListN.{length}
-use lib.Pow.{pow-pos, pow-mono, pow-lt}
-use Rattle.lists.proofs.Bools.{same, and-left, and-right, and-both}
+use lib.Pow.{pow-lt}
+use Rattle.lists.proofs.Bools.{same, and-left, and-right, and-both, or-no, or-yes}
 use Rattle.bits.specs.Bits.{bit, isSet}
-use Rattle.bits.proofs.Digits.{bit-small, bit-or, bit-and, either, low-bit, high-bit}
+use Rattle.bits.proofs.Digits.{bit-small, bit-or, bit-and, either}
+use Rattle.bits.proofs.Single.{shifted-bit, set-more, bit-more}
 use Rattle.bits.proofs.Words.{same-bits}
 use Rattle.choosing_spec.specs.ValidPattern.{ValidPattern}
 use Rattle.format.specs.declared.Pattern.{Pattern}
-use Rattle.choosing_theorems.proofs.Fits.{Asks, Holds, Fits, InBytes, InWord, matches-fits, fits-matches}
+use Rattle.choosing_theorems.proofs.Fits.{Asks, Holds, InBytes, InWord, matches-fits, fits-matches}
 use Rattle.patterns.specs.Matching.{byteBit, present, matches}
 use Rattle.tree_spec.specs.Form.{side, start}
 use Rattle.tree_spec.specs.Reach.{Input}
 
--- a number with one bit at most, at k
-shifted-bit : (x k j : ℕ) → x < 2 → (j ≡ k → ⊥) → bit (x * 2 ^ k) j ≡ 0
-shifted-bit x k j h d = go (decLt j k)
-  where
-    turn : x * 2 ^ k ≡ 0 + 2 ^ k * x
-    turn = omega (arith, mul-comm x (2 ^ k))
-
-    go : Dec (j < k) → bit (x * 2 ^ k) j ≡ 0
-    go (yes l) = rw turn (low-bit k 0 x j (pow-pos k) l ∙ rw (zero-div (2 ^ j)))
-    go (no l) =
-        let m : 2 ^ 1 ≤ 2 ^ (j - k) = pow-mono {i = 1} {j = j - k} (omega arith) in
-        let q : x < 2 ^ (j - k) = omega arith in
-        rw turn (high-bit k 0 x j (pow-pos k) (omega arith) ∙ rw (div-eq-of-lt q))
-
-own-bit : (x k : ℕ) → x < 2 → bit (x * 2 ^ k) k ≡ x
-own-bit x k h =
-    let turn : x * 2 ^ k ≡ 0 + 2 ^ k * x = omega (arith, mul-comm x (2 ^ k)) in
-    let z : k - k ≡ 0 = omega arith in
-    rw turn (high-bit k 0 x k (pow-pos k) (omega arith) ∙ rw z (omega arith))
-
 module _ (n : ℕ) (R : Asks) (m v k x : ℕ) (h : x < 2) (free : isSet m k ≡ false) (clear : bit v k ≡ 0) where
   -- the mask and the value with bit k
   other : (j : ℕ) → (j ≡ k → ⊥) → (isSet (bitOr m (2 ^ k)) j ≡ isSet m j) × (bit (bitOr v (x * 2 ^ k)) j ≡ bit v j)
-  other j d =
-      let b : bit (2 ^ k) j ≡ 0 = ap (λ y. bit y j) (sym (one-mul (2 ^ k))) ∙ shifted-bit 1 k j (lit< tt) d in
-      let z : max (bit m j) 0 ≡ bit m j = omega arith in (
-        rw (bit-or m (2 ^ k) j, b, z),
-        rw (bit-or v (x * 2 ^ k) j, shifted-bit x k j h d) (omega arith),
-      )
+  other j d = (set-more m k j ∙ rw (ne-eqb j k d) (or-no (isSet m j)), bit-more v k x j h clear ∙ rw (ne-eqb j k d))
 
   here : (isSet (bitOr m (2 ^ k)) k ≡ true) × (bit (bitOr v (x * 2 ^ k)) k ≡ x)
-  here =
-      let b : bit (2 ^ k) k ≡ 1 = ap (λ y. bit y k) (sym (one-mul (2 ^ k))) ∙ own-bit 1 k (lit< tt) in
-      let m1 : max (bit m k) 1 ≡ 1 = omega (arith, bit-small m k) in (
-        rw (bit-or m (2 ^ k) k, b, m1),
-        rw (bit-or v (x * 2 ^ k) k, own-bit x k h, clear) (omega arith),
-      )
+  here = (set-more m k k ∙ rw (eq-eqb k k refl) (or-yes (isSet m k)), bit-more v k x k h clear ∙ rw (eq-eqb k k refl))
 
   apart : (j : ℕ) → isSet m j ≡ true → j ≡ k → ⊥
   apart j e q = false≢true (sym free ∙ rw q at e)

@@ -33,6 +33,11 @@ use Rattle.tree_rule.specs.Rule.{refutes, showsWrong}
 use Rattle.tree_theorems.specs.Path.{pathFrom, pathOf}
 use Rattle.tree_theorems.proofs.Sides.{sound-start}
 use Rattle.tree_theorems.proofs.Judging.{accepts, rejects}
+use Rattle.tree_spec.specs.Verdicts as verdicts
+use Rattle.tree_spec.specs.Form as form
+use Rattle.tree_building_spec.specs.Rule.{masks, live, onPath, settles, settled, wanted, lowestWanted, nodeOf}
+use Rattle.tree_building_spec.specs.Tree.{treeFrom, treeOf, sizeOf, nodesFrom, treeBytes}
+use Rattle.tree_building.specs.Building.{fits, outcomeFor, outcomeIn, buildOf, buildAfter}
 use Rattle.fields.specs.Value.{valueOf, ofBits, sourceBit, tokenByte}
 use Rattle.fields.specs.Look.{lookOf, numberOf, signedOf}
 use Rattle.decoding_spec.specs.Tree.{rowsOf, rowsOfAll, numbersOf}
@@ -46,7 +51,7 @@ use Rattle.text.specs.Text as text
 use Rattle.text.specs.Text.{computedText, letters, pieceText, piecesText, constructorText, nameText, textsOf}
 use Rattle.text_decoding.specs.TextDecoding.{decodeTextOf, textAfter}
 use Rattle.worked_theorems.specs.Cases as cases-of
-use Rattle.worked_theorems.specs.Cases.{Starred, leafZero, leafNone, same, allHold, asks, clashes, bytes, rows, two, three, halves, chooses, pairs, decodesBy, readsBy, decodes, reads, cases, holds}
+use Rattle.worked_theorems.specs.Cases.{Starred, leafZero, leafNone, same, allHold, asks, clashes, bytes, rows, two, three, halves, chooses, pairs, decodesBy, readsBy, decodes, reads, grows, builds, nested, cases, holds}
 
 -- what table 0 of S has: one pattern, of no masked bit
 module _ (at : ℕ → Pattern) (e : at 0 ≡ start) where
@@ -65,7 +70,7 @@ module _ (at : ℕ → Pattern) (e : at 0 ≡ start) where
       rw e at (rejects 0 at 1 leafNone sound (lit≤ tt) refl 0 0 (lit< tt) refl (lit< tt) refl (λ k h. absurd (omega arith)))
 
 pub cases-hold : Starred
-unfolding holds cases allHold same asks clashes bytes rows two three halves chooses pairs
+unfolding holds cases allHold same asks clashes bytes rows two three halves chooses pairs grows builds nested
     allBelow anyBelow firstBelow tabFrom onesOf
     sectionAt layoutOf namesFrom constructorsFrom operandsFrom piecesFrom textFrom expressionsFrom
     fieldsOf namesOf constructorsOf operandsOf piecesOf textOf expressionsOf
@@ -81,6 +86,7 @@ unfolding holds cases allHold same asks clashes bytes rows two three halves choo
     countsAs countsOf withValues withValuesAll completed instructionOf decodeOf rowsAfter
     readsBy reads digitOf digitsUpTo digitsOf signText prefixText numberText over computedText letters pieceText piecesText constructorText nameText text.textOf textsOf
     decodeTextOf textAfter
+    form.side verdicts.bytesOf masks live onPath settles settled wanted lowestWanted nodeOf treeFrom treeOf sizeOf nodesFrom treeBytes fits outcomeFor outcomeIn buildOf buildAfter
 cases-hold =
     record {
       computed = refl;

@@ -6,7 +6,7 @@ use mathlib.Core.List.{List, [], _∷_, _++_}
 use mathlib.Core.Path.{_≡_}
 use lib.Dec.{eqb}
 use lib.IntN.{ℤ, pos, negsuc, natAbs}
-use lib.ListN.{length, getD, replicate}
+use lib.ListN.{length, getD, replicate, take}
 use Rattle.format.specs.Example.{S}
 use Rattle.format.specs.declared.Pattern.{Pattern}
 use Rattle.choosing_spec.specs.Choosing.{choose, choiceNumber, choiceValues}
@@ -19,6 +19,9 @@ use Rattle.decoding.specs.Decoding as decoding
 use Rattle.decoding.specs.Decoding.{decodeOf, rowsAfter}
 use Rattle.text_decoding.specs.TextDecoding as texting
 use Rattle.text_decoding.specs.TextDecoding.{decodeTextOf, textAfter}
+use Rattle.tree_building_spec.specs.Tree.{treeOf, treeBytes}
+use Rattle.tree_building.specs.Building as building
+use Rattle.tree_building.specs.Building.{buildOf, buildAfter}
 use Rattle.worked_theorems.specs.Branches.{B}
 use Rattle.tree_check.specs.Entry.{Answers}
 use Rattle.tree_check.specs.declared.Answer.the-variants.{Accepted, WrongLeaf}
@@ -91,6 +94,18 @@ decodes n s = decodesBy S 0 n s
 
 unfoldable pub reads : ℕ → List ℕ → List ℕ
 reads n s = readsBy S 0 n s
+
+-- the bytes of the tree that the rule makes for a table whose first constructor is 0
+unfoldable pub grows : List Pattern → List ℕ
+grows ps = treeBytes (treeOf 0 (rows ps) (length ps))
+
+-- building a tree of S into so many lent bytes, which are 63 before: the answer, and the lent bytes afterwards
+unfoldable pub builds : (table n : ℕ) → List ℕ
+builds t n = (building.numberOf (buildOf S t n) ∷ building.valuesOf (buildOf S t n)) ++ buildAfter S t (replicate n 63)
+
+-- a pattern, and one inside it that masks a context bit too
+unfoldable pub nested : List Pattern
+nested = bytes 1 1 ∷ record { mask = 1; value = 1; contextmask = 1; contextvalue = 1 } ∷ []
 
 unfoldable pub cases : List Case
 cases =
@@ -193,6 +208,25 @@ cases =
     -- a refusal of the walk comes before it, and the same bytes of S are decoded as before
     record { given = readsBy B 0 1 (0x50 ∷ []); said = 2 ∷ 1 ∷ 0 ∷ 0 ∷ 0 ∷ 63 ∷ [] } ∷
     record { given = readsBy B 0x100 8 (0x13 ∷ []); said = 0 ∷ 6 ∷ 0 ∷ 0 ∷ 0 ∷ 105 ∷ 110 ∷ 99 ∷ 32 ∷ 114 ∷ 51 ∷ 63 ∷ 63 ∷ [] } ∷
+    -- a tree of one leaf, with two bytes more lent, which stay as they were; a byte too few; no such table
+    record { given = builds 0 8; said = 0 ∷ 6 ∷ 0 ∷ 0 ∷ 0 ∷ 1 ∷ 0 ∷ 0 ∷ 0 ∷ 0 ∷ 0 ∷ 63 ∷ 63 ∷ [] } ∷
+    record { given = builds 0 5; said = 16 ∷ 0 ∷ 0 ∷ 0 ∷ 0 ∷ 63 ∷ 63 ∷ 63 ∷ 63 ∷ 63 ∷ [] } ∷
+    record { given = builds 2 1; said = 12 ∷ 2 ∷ 0 ∷ 0 ∷ 0 ∷ 63 ∷ [] } ∷
+    -- no byte is enough for no tree
+    record { given = builds 1 0; said = 16 ∷ 0 ∷ 0 ∷ 0 ∷ 0 ∷ [] } ∷
+    -- "byte bits before context bits": byte bit 0, none behind its zero side; context bit 0, with the outer and the inner pattern
+    record {
+      given = grows nested;
+      said =
+          5 ∷ 0 ∷
+          1 ∷ 0 ∷ 2 ∷ 0 ∷
+          0 ∷ 0 ∷ 0xff ∷ 0xff ∷
+          2 ∷ 0 ∷ 4 ∷ 0 ∷
+          0 ∷ 0 ∷ 0 ∷ 0 ∷
+          0 ∷ 0 ∷ 1 ∷ 0 ∷ [];
+    } ∷
+    -- low bits first: the patterns of S's table 1 make 79 nodes
+    record { given = take 2 (grows (bytes 0xf0 0x10 ∷ bytes 0xf0 0x20 ∷ bytes 0xff 0x1f ∷ [])); said = 79 ∷ 0 ∷ [] } ∷
     []
 
 unfoldable pub holds : Bool

@@ -2,7 +2,8 @@
 //! decodings beside the simplest fast scan, expressions beside a plain
 //! evaluation, the field read beside the one that it replaced and a plain one,
 //! and AVR code beside other disassemblers. `bench details` says more about some
-//! requests, in processor time; `bench fields` times the field read alone.
+//! requests, in processor time; `bench fields` times the field read alone, `bench
+//! build` the building of trees.
 //!
 //! `bench one` makes exactly one proved check of the longest description,
 //! for counting instructions; `bench one-ask` one question to a table of 512
@@ -12,9 +13,11 @@
 //! instruction of a set of 200 constructors to rows, `bench one-text` to text,
 //! `bench one-sweep` sweeps 64 KiB of them, and `bench one-decode-check` is the
 //! check that these three begin with; `bench one-avr-sweep` sweeps 64 KiB of
-//! AVR code.
+//! AVR code; `bench one-build` builds a tree of 4,095 nodes, and `bench
+//! one-build-check` is the check that it begins with.
 
 mod against_scan;
+mod building;
 mod choosing;
 mod clock;
 mod decoding;
@@ -40,7 +43,7 @@ use clock::median;
 use timing::{print, rounds, MANY};
 
 /// Requests that are made once.
-const ONES: [&str; 10] = [
+const ONES: [&str; 12] = [
     "one",
     "one-ask",
     "one-clash",
@@ -51,6 +54,8 @@ const ONES: [&str; 10] = [
     "one-sweep",
     "one-decode-check",
     "one-avr-sweep",
+    "one-build",
+    "one-build-check",
 ];
 
 fn main() {
@@ -58,6 +63,7 @@ fn main() {
         None => overview(),
         Some("details") => details(),
         Some("fields") => field_reads::print(),
+        Some("build") => building::print(),
         Some("one") => print_answer(dookerand::check(black_box(&bytes(&longest())))),
         Some("one-ask") => print_answer(choosing::one_ask()),
         Some("one-clash") => print_answer(choosing::one_clash()),
@@ -68,8 +74,11 @@ fn main() {
         Some("one-sweep") => print_answer(sweep::one_sweep()),
         Some("one-avr-sweep") => print_answer(sweep::one_avr_sweep()),
         Some("one-decode-check") => print_answer(decoding::one_check()),
+        Some("one-build") => print_answer(building::one_build()),
+        Some("one-build-check") => print_answer(building::one_check()),
         Some(_) => {
-            eprintln!("usage: bench [details | fields | {}]", ONES.join(" | "));
+            let ones = ONES.join(" | ");
+            eprintln!("usage: bench [details | fields | build | {ones}]");
             std::process::exit(2);
         }
     }
@@ -77,6 +86,7 @@ fn main() {
 
 fn overview() {
     table::print();
+    building::print();
     against_scan::print();
     expressions::print();
     field_reads::print();
@@ -93,6 +103,7 @@ fn details() {
     check("S", &bytes(&description_s()), 5_000);
     choosing::all();
     trees::all();
+    building::all();
     decoding::all();
     text::all();
     sweep::all();

@@ -95,10 +95,8 @@ impl Element for u8 {
     }
 }
 
-/// The number and values that both gave, with the lent elements. Compares all
-/// elements afterwards: those written, the lent ones behind them, and those
-/// around that are not lent. The requests take a description, a context, an
-/// address, code and what is lent.
+/// The number and values that both gave, with the lent elements. The requests
+/// take a description, a context, an address, code and what is lent.
 pub fn agreed_with_lent<T: Element>(
     given: &Given,
     lent: usize,
@@ -114,13 +112,6 @@ pub fn agreed_with_lent<T: Element>(
         code,
         from,
     } = given;
-    let mut elements: Vec<T> = (0..MARGIN + lent + MARGIN).map(T::untouched).collect();
-    let mut expected_elements = elements.clone();
-    let of_lent = MARGIN..MARGIN + lent;
-    let expected_lent = &mut expected_elements[of_lent.clone()];
-    let expected = reference(description, context, address, code, expected_lent);
-    let lent_elements = &mut elements[of_lent.clone()];
-    let answer = library(description, context, address, code, lent_elements);
     let request = || {
         let at = format!("address {address:#x}, alignment {alignment}, from {from}");
         format!(
@@ -128,7 +119,34 @@ pub fn agreed_with_lent<T: Element>(
             hex(code)
         )
     };
-    let (number, values) = agreed(kind, request, description, &expected, answer);
+    agreed_on_lent(
+        kind,
+        request,
+        description,
+        (lent, T::untouched),
+        |lent| reference(description, context, address, code, lent),
+        |lent| library(description, context, address, code, lent),
+    )
+}
+
+/// The same for any request on a description. So many elements are lent, and
+/// each is told by its place what it is before the call. Compares all elements
+/// afterwards: those written, the lent ones behind them, and those around that
+/// are not lent.
+pub fn agreed_on_lent<T: Copy + Debug + PartialEq>(
+    kind: &str,
+    request: impl Fn() -> String,
+    description: &[u8],
+    (lent, before): (usize, impl Fn(usize) -> T),
+    reference: impl FnOnce(&mut [T]) -> reference::Answer,
+    library: impl FnOnce(&mut [T]) -> dookerand::Answer,
+) -> (u32, [u64; 4], Vec<T>) {
+    let mut elements: Vec<T> = (0..MARGIN + lent + MARGIN).map(before).collect();
+    let mut expected_elements = elements.clone();
+    let of_lent = MARGIN..MARGIN + lent;
+    let expected = reference(&mut expected_elements[of_lent.clone()]);
+    let answer = library(&mut elements[of_lent.clone()]);
+    let (number, values) = agreed(kind, &request, description, &expected, answer);
     if elements != expected_elements {
         let [expected, found] = [&expected_elements, &elements].map(|all| format!("{all:?}"));
         differ(kind, &request(), description, &expected, &found);

@@ -4,6 +4,7 @@
 
 mod agreed;
 mod avr;
+mod building;
 mod check;
 mod choosing;
 mod computed;
@@ -41,6 +42,7 @@ fn main() {
     timed("check", || check::compare(&mut Rng::new(seed)));
     timed("ask and clash", || choosing::compare(&mut Rng::new(seed)));
     timed("tree check", || trees::compare(&mut Rng::new(seed)));
+    timed("build", || building::compare(&mut Rng::new(seed)));
     timed("decode", || decoding::compare(&mut Rng::new(seed)));
     timed("fields", || fields::compare(&mut Rng::new(seed)));
     timed("text", || text::compare(&mut Rng::new(seed)));

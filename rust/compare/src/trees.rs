@@ -2,10 +2,10 @@
 
 use generate::example::description_s;
 use generate::{
-    all_bits, any_node, any_place, bytes, change_records, deep_tree, grow, instruction_set,
-    largest_tree, meeting_tables, prune, random_tree, repeated, replace, rules, small_tree,
-    table_ranges, tree_bytes, tree_count_faults, tree_nodes, well_formed, Node, Records, Rng,
-    Shape, Size, NODE_LIMIT, NONE, TREE_RULES, WHOLE_TREE,
+    all_bits, any_node, any_place, bytes, changed_tables, deep_tree, grow, instruction_set,
+    largest_tree, meeting_tables, prune, random_tree, repeated, replace, small_tree, table_ranges,
+    tree_bytes, tree_count_faults, tree_nodes, well_formed, Node, Records, Rng, Shape, Size,
+    NODE_LIMIT, NONE, TREE_RULES, WHOLE_TREE,
 };
 use reference::{clash, requests, Clash, Description, Verdict};
 
@@ -501,15 +501,8 @@ impl Trees<'_> {
     /// The description's fault comes before all else.
     fn malformed(&mut self) {
         self.kind = "description malformed";
-        for (_, break_rule) in rules() {
-            for _ in 0..40 {
-                let d = meeting_tables(self.rng, 3);
-                let mut broken = d.clone();
-                break_rule(&mut broken, self.rng);
-                self.changed_description(&d, &bytes(&broken));
-                let changed = change_records(&d, self.rng);
-                self.changed_description(&d, &changed);
-            }
+        for (d, changed) in changed_tables(self.rng, 40) {
+            self.changed_description(&d, &changed);
         }
     }
 

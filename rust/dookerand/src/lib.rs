@@ -12,7 +12,7 @@ pub use decoding::decode;
 pub use listing::{list, list_answer, Listing, LINE};
 pub use sweep::sweep;
 pub use text::text;
-pub use trees::tree;
+pub use trees::{build, tree, TREE};
 
 mod c {
     extern "C" {

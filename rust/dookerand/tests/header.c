@@ -21,12 +21,19 @@ static void print_rows(const int64_t *rows, size_t numbers)
         printf("%" PRId64 "%s", rows[i], i + 1 < numbers ? " " : "\n");
 }
 
+static void print_bytes(const uint8_t *bytes, size_t length)
+{
+    for (size_t i = 0; i < length; i++)
+        printf("%d%s", bytes[i], i + 1 < length ? " " : "\n");
+}
+
 static void print_constants(void)
 {
     const int answers[] = { DOOKERAND_DONE, DOOKERAND_MALFORMED, DOOKERAND_SHORT, DOOKERAND_NO_MATCH,
                             DOOKERAND_AMBIGUOUS, DOOKERAND_HOLE, DOOKERAND_TOO_FAR, DOOKERAND_TOO_MANY_ROWS,
                             DOOKERAND_ROOT_LENGTH_ZERO, DOOKERAND_NO_ROOM, DOOKERAND_TEXT_TOO_LONG, DOOKERAND_BAD_TREE,
-                            DOOKERAND_NO_TABLE, DOOKERAND_OUTSIDE, DOOKERAND_NO_MULTIPLE };
+                            DOOKERAND_NO_TABLE, DOOKERAND_OUTSIDE, DOOKERAND_NO_MULTIPLE, DOOKERAND_CLASHING,
+                            DOOKERAND_TREE_TOO_LARGE };
 
     printf("answers");
     for (size_t i = 0; i < sizeof answers / sizeof answers[0]; i++)
@@ -34,8 +41,8 @@ static void print_constants(void)
     printf("\nrows %d %d %d %d\n", DOOKERAND_ROW_CONSTRUCTOR, DOOKERAND_ROW_FIELD, DOOKERAND_ROW_NAME,
            DOOKERAND_ROW_COMPUTED);
     printf("ends %d %d %d\n", DOOKERAND_END_USED, DOOKERAND_END_FULL, DOOKERAND_END_SHORT);
-    printf("room %d %d %d %d %d\n", DOOKERAND_VALUES, DOOKERAND_ROW_NUMBERS, DOOKERAND_DECODE_ROOM,
-           DOOKERAND_TEXT_ROOM, DOOKERAND_LINE_ROOM);
+    printf("room %d %d %d %d %d %d\n", DOOKERAND_VALUES, DOOKERAND_ROW_NUMBERS, DOOKERAND_DECODE_ROOM,
+           DOOKERAND_TEXT_ROOM, DOOKERAND_LINE_ROOM, DOOKERAND_TREE_ROOM);
     printf("none %d\n", DOOKERAND_NONE);
 }
 
@@ -44,6 +51,7 @@ static void call_each(size_t length)
     const uint8_t code[] = { 0x25, 0xfe };
     const uint8_t tree[] = { 1, 0, 0, 0, 0, 0 };
     const uint32_t address = 0x1000, alignment = 2;
+    uint8_t built[320] = { 0 };
     int64_t rows[20] = { 0 };
     uint8_t text[16] = "................";
     uint8_t lines[24] = "........................";
@@ -53,6 +61,8 @@ static void call_each(size_t length)
     print("ask", dookerand_ask(description, length, 1, 0, code, sizeof code, values), values);
     print("clash", dookerand_clash(description, length, 1, values), values);
     print("tree", dookerand_tree(description, length, 0, tree, sizeof tree, values), values);
+    print("build", dookerand_build(description, length, 1, built, sizeof built, values), values);
+    print_bytes(built, sizeof built);
     print("decode", dookerand_decode(description, length, 0, address, code, sizeof code, rows, 20, values), values);
     print_rows(rows, 20);
     print("text", dookerand_text(description, length, 0, address, code, sizeof code, text, sizeof text, values),

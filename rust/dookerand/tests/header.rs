@@ -22,10 +22,10 @@ fn root() -> PathBuf {
 
 /// The constants, as docs/ANSWERS.md has them.
 const CONSTANTS: &str = "\
-answers 0 1 2 3 4 5 6 7 8 9 10 11 12 13 14
+answers 0 1 2 3 4 5 6 7 8 9 10 11 12 13 14 15 16
 rows 0 1 2 3
 ends 0 1 2
-room 4 4 128 256 275
+room 4 4 128 256 275 16382
 none 65535
 ";
 
@@ -55,6 +55,10 @@ fn every_function_in_c() {
     answers(&mut expected, &std::fs::read(s).unwrap());
     answers(&mut expected, &bytes(&target()));
     assert_eq!(printed, expected);
+    assert!(
+        printed.contains("build 0 318 0 0 0\n79 0 1 0 "),
+        "{printed}"
+    );
     assert!(printed.contains("add r5, -0x2....\n"), "{printed}");
     assert!(printed.contains("00001000: add r5, -0x2\n.\n"), "{printed}");
     assert!(printed.contains("00001000: 0xffe\n"), "{printed}");
@@ -69,6 +73,7 @@ fn the_header_is_c_plus_plus_too() {
 
 /// What each function answers.
 fn answers(out: &mut String, description: &[u8]) {
+    let mut built = [0; 320];
     let mut rows = [0; 20];
     let mut text = [b'.'; 16];
     let mut lines = [b'.'; 24];
@@ -76,6 +81,8 @@ fn answers(out: &mut String, description: &[u8]) {
     line(out, "ask", dookerand::ask(description, 1, 0, &CODE));
     line(out, "clash", dookerand::clash(description, 1));
     line(out, "tree", dookerand::tree(description, 0, &TREE));
+    line(out, "build", dookerand::build(description, 1, &mut built));
+    numbers(out, &built);
     let decoded = dookerand::decode(description, 0, ADDRESS, &CODE, &mut rows);
     line(out, "decode", decoded);
     numbers(out, &rows);
@@ -95,7 +102,7 @@ fn line(out: &mut String, request: &str, answer: Answer) {
     writeln!(out, "{request} {} {a} {b} {c} {d}", answer.number).unwrap();
 }
 
-fn numbers(out: &mut String, rows: &[i64]) {
-    let rows: Vec<String> = rows.iter().map(i64::to_string).collect();
-    writeln!(out, "{}", rows.join(" ")).unwrap();
+fn numbers<T: ToString>(out: &mut String, numbers: &[T]) {
+    let numbers: Vec<String> = numbers.iter().map(T::to_string).collect();
+    writeln!(out, "{}", numbers.join(" ")).unwrap();
 }

@@ -2,6 +2,7 @@
 //! ones with single rules broken, at their limits, or changed at random.
 
 mod allowed;
+mod clear_tables;
 mod code;
 mod counts;
 mod decodable;
@@ -28,6 +29,10 @@ mod well_formed;
 mod write;
 
 pub use allowed::{Change, CHANGES};
+pub use clear_tables::{
+    deepest_full_table, deepest_table, format_table, largest_tree_table, nested_table, one_table,
+    opcode_table, subset_table, table_with_tests, LEAST_TESTS,
+};
 pub use code::{address, alignment, code, context, input, Input, ALIGNMENTS, NO_ALIGNMENTS};
 pub use counts::count_faults;
 pub use decodable::{decodable, Leaning};
@@ -37,7 +42,9 @@ pub use instruction_set::{
 };
 pub use limits::{limits, Case};
 pub use longest::{longest, longest_of_all};
-pub use mutate::{change_bytes, change_counts, change_records, insert_or_remove, random_records};
+pub use mutate::{
+    change_bytes, change_counts, change_records, changed_tables, insert_or_remove, random_records,
+};
 pub use operators::{
     edge_values, expression_table, operators_on_addresses, operators_on_constants, EDGE_ADDRESSES,
     TABLE_EXPRESSIONS,

@@ -4,7 +4,24 @@ use reference::Description;
 
 use crate::counts::with_count;
 use crate::write::{bytes, counts, section_starts, sections, LIMITS, RECORD_SIZES, SECTIONS};
-use crate::Rng;
+use crate::{meeting_tables, rules, Rng};
+
+/// Descriptions of tables whose patterns meet, each with its bytes after one
+/// rule is broken and after records are changed, so often for each rule.
+pub fn changed_tables(rng: &mut Rng, times: usize) -> Vec<(Description, Vec<u8>)> {
+    let mut all = Vec::new();
+    for (_, break_rule) in rules() {
+        for _ in 0..times {
+            let d = meeting_tables(rng, 3);
+            let mut broken = d.clone();
+            break_rule(&mut broken, rng);
+            all.push((d.clone(), bytes(&broken)));
+            let changed = change_records(&d, rng);
+            all.push((d, changed));
+        }
+    }
+    all
+}
 
 /// Changes one or a few bytes of records, so that the counts still hold.
 pub fn change_records(d: &Description, rng: &mut Rng) -> Vec<u8> {

@@ -1,7 +1,11 @@
 //! Tables for asking and for the clash check.
 
-use generate::{bytes, instruction_set, instruction_starts, meeting_tables, table_ranges, Rng};
-use reference::{ask, check, clash, Clash, Description};
+use generate::{
+    bytes, deepest_full_table, deepest_table, format_table, instruction_set, instruction_starts,
+    largest_tree_table, meeting_tables, nested_table, one_table, opcode_table, subset_table,
+    table_ranges, table_with_tests, Rng, LEAST_TESTS,
+};
+use reference::{ask, check, clash, Clash, Description, Pattern};
 
 /// How many tables are clear, and how many clash.
 fn verdicts(descriptions: &[Description]) -> [usize; 2] {
@@ -63,6 +67,32 @@ fn an_instruction_set_is_clear_and_its_starts_are_taken() {
             for context in [0, 1] {
                 assert!(ask(&d, 0, context, &code[start..]).is_ok());
             }
+        }
+    }
+}
+
+#[test]
+fn clear_tables() {
+    let rng = &mut Rng::new(10);
+    for _ in 0..5 {
+        let small = [
+            one_table(&[Pattern::default()]),
+            deepest_table(rng),
+            table_with_tests(rng, LEAST_TESTS),
+            table_with_tests(rng, 3000),
+        ];
+        let full = [
+            deepest_full_table(rng),
+            largest_tree_table(),
+            opcode_table(rng, 0x1fff, 512),
+            format_table(rng),
+            nested_table(rng),
+            subset_table(rng),
+        ];
+        assert!(full.iter().all(|d| d.constructors.len() == 512));
+        for d in small.into_iter().chain(full) {
+            assert_eq!(check(&bytes(&d)), Ok(d.clone()));
+            assert_eq!(clash(&d, 0), Ok(Clash::Clear));
         }
     }
 }

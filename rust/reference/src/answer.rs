@@ -7,7 +7,8 @@ use crate::read::Fault;
 use crate::sweep::{End, Sweep};
 use crate::tree::Verdict;
 
-/// Why the decoder says no. The last is given in a sweep's rows alone.
+/// Why the decoder says no. `NoMultiple` is given in a sweep's rows alone;
+/// `Clashing` has the first pair of records that clash.
 #[derive(Clone, Copy, Debug, PartialEq, Eq)]
 pub enum Refusal {
     Malformed(Fault),
@@ -25,6 +26,8 @@ pub enum Refusal {
     NoAlignment { number: u32 },
     Outside { place: usize },
     NoMultiple,
+    Clashing(usize, usize),
+    TreeTooLarge,
 }
 
 impl From<Fault> for Refusal {
@@ -52,6 +55,8 @@ impl Refusal {
             Refusal::NoAlignment { number } => (12, values([number.into()])),
             Refusal::Outside { place } => (13, values([place as u64])),
             Refusal::NoMultiple => (14, values([])),
+            Refusal::Clashing(i, j) => (15, values([i as u64, j as u64])),
+            Refusal::TreeTooLarge => (16, values([])),
         }
     }
 }
@@ -63,7 +68,7 @@ pub enum Answer {
     Asked(Taken),
     Clash(Clash),
     Tree(Verdict),
-    /// Rows or bytes of text.
+    /// Rows, or bytes of text or of a tree.
     Written(usize),
     Swept(Sweep),
     Listed(Listed),

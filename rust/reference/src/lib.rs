@@ -7,6 +7,7 @@
 
 mod alignment;
 mod answer;
+mod build;
 mod check;
 mod choose;
 mod clash;
@@ -22,6 +23,7 @@ mod tree;
 
 pub use alignment::Alignment;
 pub use answer::{Answer, Refusal};
+pub use build::build;
 pub use check::check;
 pub use choose::{ask, Taken};
 pub use clash::{clash, Clash};

@@ -31,6 +31,17 @@ pub fn tree(description: &[u8], table: u32, tree: &[u8]) -> Answer {
     answer(checked(), Answer::Tree)
 }
 
+/// Builds the decision tree of a table.
+pub fn build(description: &[u8], table: u32, lent: &mut [u8]) -> Answer {
+    let mut built = || {
+        let tree = crate::build(&crate::check(description)?, table)?;
+        // Too little room is the tree's fault here.
+        write(&tree, lent).map_err(|_| Refusal::TreeTooLarge)?;
+        Ok(tree.len())
+    };
+    answer(built(), Answer::Written)
+}
+
 /// Decodes one instruction to rows, four numbers each.
 pub fn rows(
     description: &[u8],

@@ -19,17 +19,20 @@ pub enum Verdict {
 
 /// The node named where the fault is no single node's, and a leaf's place
 /// for no constructor.
-const NONE: u16 = 65_535;
+pub const NONE: u16 = 65_535;
 
-const LEAF: u8 = 0;
-const BYTE_TEST: u8 = 1;
-const CONTEXT_TEST: u8 = 2;
+/// The most nodes of a tree.
+pub const NODE_LIMIT: usize = 4095;
+
+pub const LEAF: u8 = 0;
+pub const BYTE_TEST: u8 = 1;
+pub const CONTEXT_TEST: u8 = 2;
 
 #[derive(Clone, Copy)]
-struct Node {
-    kind: u8,
-    bit: u8,
-    place: u16,
+pub struct Node {
+    pub kind: u8,
+    pub bit: u8,
+    pub place: u16,
 }
 
 /// A leaf with the inputs that reach it: its path, as a pattern.
@@ -60,7 +63,7 @@ pub fn tree_check(description: &Description, table: u32, tree: &[u8]) -> Result<
 fn read_nodes(tree: &[u8]) -> Result<Vec<Node>, u16> {
     let (count, records) = tree.split_first_chunk().ok_or(NONE)?;
     let count = usize::from(u16::from_le_bytes(*count));
-    if !(1..=4095).contains(&count) || records.len() != 4 * count {
+    if !(1..=NODE_LIMIT).contains(&count) || records.len() != 4 * count {
         return Err(NONE);
     }
     let node = |&[kind, bit, place_0, place_1]: &[u8; 4]| Node {

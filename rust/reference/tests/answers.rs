@@ -34,6 +34,7 @@ fn answer(request: &str, code: &[u8]) -> Answer {
         "check" => requests::check(&s),
         "ask" => requests::ask(&s, TABLE, CONTEXT, code),
         "clash" => requests::clash(&s, TABLE),
+        "build" => requests::build(&s, TABLE, &mut text),
         "decode" => requests::rows(&s, CONTEXT, 0, code, &mut rows),
         "text" => requests::text(&s, CONTEXT, 0, code, &mut text),
         "sweep" => requests::sweep(&s, CONTEXT, 0, alignment, code, &mut rows),

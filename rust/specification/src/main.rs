@@ -5,11 +5,12 @@ use std::collections::{BTreeMap, BTreeSet};
 use std::fs;
 
 /// The entry points, each a crate and a function of it; of the C face every function.
-const ENTRIES: [(&str, &str); 10] = [
+const ENTRIES: [(&str, &str); 11] = [
     ("validation", "check"),
     ("table_query", "ask"),
     ("clash_check", "clash"),
     ("tree_check", "tree_check"),
+    ("tree_building", "build"),
     ("decoding", "decode"),
     ("text_decoding", "decode_text"),
     ("sweep", "sweep"),

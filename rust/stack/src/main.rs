@@ -5,8 +5,11 @@
 mod nested;
 mod painted;
 
-use dookerand::{Answer, LINE};
-use generate::{bytes, deep_tree, longest_of_all, tree_bytes, Rng};
+use dookerand::{Answer, LINE, TREE};
+use generate::{
+    bytes, deep_tree, deepest_full_table, deepest_table, largest_tree_table, longest_of_all,
+    tree_bytes, Rng,
+};
 
 use nested::{nested, Inner};
 use painted::used;
@@ -87,11 +90,17 @@ fn list(description: &[u8]) -> usize {
     of(|| dookerand::list_answer(description, 0, 0, ALIGNMENT, &CODE, 0, &mut text))
 }
 
-fn others() -> [(&'static str, usize); 5] {
+fn build(description: &[u8], table: u32) -> usize {
+    let mut tree = [0; TREE];
+    of(|| dookerand::build(description, table, &mut tree))
+}
+
+fn others() -> [(&'static str, usize); 9] {
+    let rng = &mut Rng::new(1);
     let (avr, longest) = (avr::description(), bytes(&longest_of_all()));
     let d = reference::check(&avr).expect("it is well formed");
     let root = d.root();
-    let (deep, _) = deep_tree(&mut Rng::new(1), &d, root).expect("the root's tree is small");
+    let (deep, _) = deep_tree(rng, &d, root).expect("the root's tree is small");
     let deep = tree_bytes(&deep);
     let leaf = [1, 0, 0, 0, 0xff, 0xff];
     [
@@ -105,6 +114,19 @@ fn others() -> [(&'static str, usize); 5] {
         (
             "tree, AVR, 96 tests deep",
             of(|| dookerand::tree(&avr, root, &deep)),
+        ),
+        ("build, AVR, refused", build(&avr, root)),
+        (
+            "build, 96 tests deep",
+            build(&bytes(&deepest_table(rng)), 0),
+        ),
+        (
+            "build, 512 at 96 tests",
+            build(&bytes(&deepest_full_table(rng)), 0),
+        ),
+        (
+            "build, 4,095 nodes",
+            build(&bytes(&largest_tree_table()), 0),
         ),
     ]
 }

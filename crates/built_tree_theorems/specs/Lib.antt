@@ -1,0 +1,2 @@
+-- What the theorems about built trees say.
+pub mod Facts

@@ -1,0 +1,4 @@
+-- Laws of the paths and of counting.
+pub mod Turning
+pub mod Paths
+pub mod Counting

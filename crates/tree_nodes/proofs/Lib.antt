@@ -1,0 +1,4 @@
+-- Laws of the gathered masks.
+pub mod Zeros
+pub mod Gathered
+pub mod Noding
