@@ -1,17 +1,19 @@
 // Whether bytes are a description that the entry points work with. What this refuses comes before everything else that they test.
+#![tactic(auto)]
+
 ghost use Rattle.std.specs.Prelude.{◌≡◌};
 ghost use Rattle.acceptance.specs.Acceptance.{acceptance_of, rejection_number, first_value, second_value, third_value};
 
 use format::{Checked, Layout};
 
 // Why bytes are no such description: the first fault's section and record.
-#[derive(Drop)]
+#[derive(Clone, Copy)]
 pub struct Rejection {
     pub section: usize,
     pub number: usize,
 }
 
-#[derive(Drop)]
+#[derive(Clone, Copy)]
 pub enum Acceptance {
     Accepted(Layout),
     Rejected(Rejection),

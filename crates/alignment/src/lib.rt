@@ -1,4 +1,6 @@
 // Alignment: which numbers are one, multiples of it, and how far a gap reaches.
+#![tactic(auto)]
+
 ghost use Rattle.std.specs.Prelude.{true, ◌≡◌};
 ghost use Rattle.alignment.specs.Alignment.{is_alignment, is_multiple, gap_length};
 

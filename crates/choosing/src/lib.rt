@@ -1,4 +1,6 @@
 // Choosing in a table of a well-formed description: one pass over the table's patterns, on machine words.
+#![tactic(auto)]
+
 ghost use Rattle.std.specs.Prelude.{true, false, ◌≡◌, ◌+◌, ◌-◌, ◌<◌, ◌≤◌, ◌^◌};
 ghost use Rattle.format.specs.Layout.{SectionsInBounds, inside};
 ghost use Rattle.format.specs.Numbers.{constructor_bytes};
@@ -15,14 +17,14 @@ use patterns::Input;
 use tables::Table;
 
 // What a pass has found so far: whether a record matches, the one that lies inside the others, and whether that is in doubt.
-#[derive(Drop)]
+#[derive(Clone, Copy)]
 pub struct Best {
     pub found: bool,
     pub unsure: bool,
     pub at: usize,
 }
 
-#[derive(Drop)]
+#[derive(Clone, Copy)]
 pub enum Scanned {
     CutOff,
     Complete(Best),

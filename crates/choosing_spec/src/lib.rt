@@ -1,7 +1,8 @@
 // What choosing in a table, and its clash check, may answer. Their meaning is in specs/.
+#![tactic(auto)]
 
 // A record is numbered within its table.
-#[derive(Drop)]
+#[derive(Clone, Copy)]
 pub enum Choice {
     Short,
     NoMatch,
@@ -9,7 +10,7 @@ pub enum Choice {
     Ambiguous,
 }
 
-#[derive(Drop)]
+#[derive(Clone, Copy)]
 pub enum Clash {
     Clear,
     Pair(usize, usize),

@@ -1,4 +1,6 @@
 // The clash check of a table: pairs in order; only a pair that crosses looks for a third.
+#![tactic(auto)]
+
 ghost use Rattle.std.specs.Prelude.{true, ◌≡◌, ◌+◌, ◌<◌, ◌≤◌};
 ghost use Rattle.format.specs.Layout.{SectionsInBounds};
 ghost use Rattle.format.specs.Check.{WellFormed};
@@ -12,7 +14,7 @@ use choosing_spec::Clash;
 use format::{Checked, Layout, Pattern};
 use tables::Table;
 
-#[derive(Drop)]
+#[derive(Clone, Copy)]
 pub enum ClashAnswer {
     Clear,
     Pair(usize, usize),

@@ -1,4 +1,6 @@
 // Decoding one instruction of any bytes to rows.
+#![tactic(auto)]
+
 ghost use Rattle.std.specs.Prelude.{◌≡◌, ◌*◌, ◌≤◌, length};
 ghost use Rattle.format.specs.Numbers.{most_rows, row_numbers};
 ghost use Rattle.format.specs.Check.{WellFormed};
@@ -11,7 +13,7 @@ use decoding_spec::Refusal;
 use format::Layout;
 use walk_steps::Walked;
 
-#[derive(Drop)]
+#[derive(Clone, Copy)]
 pub enum Decoded {
     Done(usize),
     Rejected(Rejection),

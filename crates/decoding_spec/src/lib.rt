@@ -1,10 +1,12 @@
 // What decoding one instruction means: the definitions are in specs/. The refusals, with their facts, and the walk's state are here.
+#![tactic(auto)]
+
 ghost use Rattle.std.specs.Prelude.{◌≡◌};
 ghost use Rattle.decoding_spec.specs.Refusals.{refusal_number, refusal_place, refusal_table, is_short};
 
 // Why there is no instruction: answers 2 to 8 and 13, each with its place, "no match" and "ambiguous" with their table too. The fields are
 // narrow, so that a refusal stands beside the numbers of a done walk and not over them: they are copied one by one.
-#[derive(Drop)]
+#[derive(Clone, Copy)]
 pub enum Refusal {
     Short(u16),
     NoMatch { place: u16, table: u8 },
@@ -18,7 +20,7 @@ pub enum Refusal {
 
 // What changes along a walk: the rows used so far, the context, and the constructor closed last, which at the end is the root's. The
 // context is as wide as the others, so that all are copied whole.
-#[derive(Drop)]
+#[derive(Clone, Copy)]
 pub struct State {
     pub used: usize,
     pub context: u64,

@@ -1,4 +1,6 @@
 // The C face. Each function returns the answer's number in the tables of documents 01 and 02 and sets all four values.
+#![tactic(auto)]
+
 ghost use Rattle.std.specs.Prelude.{◌≡◌, length};
 ghost use Rattle.acceptance.specs.Acceptance as acceptance;
 ghost use Rattle.acceptance.specs.Acceptance.{acceptance_of, rejection_number, rejection_values};

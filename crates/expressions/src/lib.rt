@@ -1,4 +1,6 @@
 // A description's expressions: when a record writes one, what it names, and its value.
+#![tactic(auto)]
+
 ghost use Rattle.std.specs.Prelude.{◌≡◌, true, not, ◌||◌, ◌+◌, ◌<◌, ◌≤◌, min, pos, length};
 ghost use Rattle.bits.specs.Bits.{is_set};
 ghost use Rattle.format.specs.Numbers.{most_steps, expression_bytes};

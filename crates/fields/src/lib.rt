@@ -1,4 +1,6 @@
 // The value of a field, read by whole bytes, and how its look shows it.
+#![tactic(auto)]
+
 ghost use Rattle.std.specs.Prelude.{◌≡◌, ◌+◌, ◌*◌, ◌<◌, ◌≤◌, ◌/◌, ◌%◌, ◌^◌, length};
 ghost use Rattle.fields.specs.Value.{Readable, value_of};
 ghost use Rattle.fields.specs.Token.{Joinable, token_of};
@@ -7,7 +9,7 @@ ghost use Rattle.fields.specs.Look.{look_of, number_of};
 use format::Field;
 
 // How a value is shown: as a number, with a sign or without, in a base; or by its name.
-#[derive(Drop)]
+#[derive(Clone, Copy)]
 pub enum Look {
     Number { signed: bool, base: u8 },
     Name,

@@ -1,7 +1,6 @@
 -- A well-formed description's tables never fall, so a table's constructors stand together.
 use Prim.Native.Nat.{ℕ, zero, suc, ◌+◌, ◌-◌, ◌≤◌, ◌<◌}
-use mathlib.Core.Bool.{Bool, true, false, ◌&&◌, ◌||◌}
-use mathlib.Core.List.{List}
+use mathlib.Core.Bool.{Bool, true, ◌&&◌, ◌||◌}
 use mathlib.Core.Path.{◌≡◌, ap, fun_ext}
 use native.Mathlib.Decide.{dec_lt}
 use native.Mathlib.Numerals.{add-one}
@@ -9,11 +8,11 @@ use native.Mathlib.Omega.{arith}
 use borrow.Author.Tests.{ltb-true, ltb-false, leb-true, leb-false, lt-ltb, le-leb, eq-eqb, ne_eqb, eqb-true}
 use lib.Dec.{ltb, leb, eqb}
 use lib.ListN.{length, get_or}
-use Rattle.lists.specs.Below.{all_below, any_below, first_below}
+use Rattle.lists.specs.Below.{all_below, first_below}
 use Rattle.lists.proofs.Below.{First, first-is, all-at, any_at, any_found}
 use Rattle.lists.proofs.Bools.{and_left, and_right, same}
 use Rattle.format.specs.Numbers.{tables, operands_each, pieces_each}
-use Rattle.format.specs.Description.{Description, description, no_constructor}
+use Rattle.format.specs.Description.{Description, no_constructor}
 use Rattle.format.specs.Rules.{constructor_ok, shape_ok, table_ok, table_at, minimum_ok, value_ok, range_ok, operand_fits, piece_fits, has_table}
 use Rattle.format.specs.Tables.{table_first, table_end}
 use Rattle.format.specs.declared.Constructor.{Constructor}

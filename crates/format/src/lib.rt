@@ -1,4 +1,6 @@
 // The description's format: its records, the numbers that limit it, and the cursor that reads it.
+#![tactic(auto)]
+
 ghost use Rattle.std.specs.Prelude.{◌≡◌, ◌+◌, ◌<◌, ◌≤◌, length};
 ghost use Rattle.format.specs.Bytes.{u16_at, u32_at, u64_at};
 ghost use Rattle.format.specs.Numbers.{field_bytes, name_bytes, constructor_bytes, operand_bytes, piece_bytes, letter_bytes, expression_bytes};
@@ -87,7 +89,7 @@ pub const SWEEP_NUMBERS: usize = 4;
 // The record number of a fault that is a section's own.
 pub const SECTION: usize = 65535;
 
-#[derive(Drop)]
+#[derive(Clone, Copy)]
 pub struct Field {
     pub source: u8,
     pub width: u8,
@@ -98,14 +100,14 @@ pub struct Field {
     pub first: u16,
 }
 
-#[derive(Drop)]
+#[derive(Clone, Copy)]
 pub struct Name {
     pub offset: u16,
     pub length: u8,
 }
 
 // Byte i of the byte mask is bits 8i to 8i + 7 of `mask`, and so for the value.
-#[derive(Drop)]
+#[derive(Clone, Copy)]
 pub struct Pattern {
     pub mask: u64,
     pub value: u64,
@@ -114,13 +116,13 @@ pub struct Pattern {
 }
 
 // A constructor's operands, or its pieces: so many records of their section from the first on.
-#[derive(Drop)]
+#[derive(Clone, Copy)]
 pub struct Range {
     pub first: u16,
     pub count: u8,
 }
 
-#[derive(Drop)]
+#[derive(Clone, Copy)]
 pub struct Constructor {
     pub table: u8,
     pub minimum: u8,
@@ -129,7 +131,7 @@ pub struct Constructor {
     pub pieces: Range,
 }
 
-#[derive(Drop)]
+#[derive(Clone, Copy)]
 pub struct Operand {
     pub kind: u8,
     pub index: u8,
@@ -137,7 +139,7 @@ pub struct Operand {
     pub offset: u8,
 }
 
-#[derive(Drop)]
+#[derive(Clone, Copy)]
 pub struct Piece {
     pub kind: u8,
     pub n: u8,
@@ -145,20 +147,20 @@ pub struct Piece {
 }
 
 // A step of an expression.
-#[derive(Drop)]
+#[derive(Clone, Copy)]
 pub struct Step {
     pub kind: u8,
     pub value: u64,
 }
 
 // Where a section's records start, and how many there are.
-#[derive(Drop)]
+#[derive(Clone, Copy)]
 pub struct Section {
     pub start: usize,
     pub count: usize,
 }
 
-#[derive(Drop)]
+#[derive(Clone, Copy)]
 pub struct Layout {
     pub fields: Section,
     pub names: Section,
@@ -170,71 +172,71 @@ pub struct Layout {
 }
 
 // The counts, read: the sections' places, or the section at fault.
-#[derive(Drop)]
+#[derive(Clone, Copy)]
 pub enum LayoutResult {
     At(Layout),
     Fault(usize),
 }
 
 // The judgement of a description: its sections' places, or its fault.
-#[derive(Drop)]
+#[derive(Clone, Copy)]
 pub enum Checked {
     Good(Layout),
     Fault { section: usize, record: usize },
 }
 
 // A place in the description.
-#[derive(Drop)]
+#[derive(Clone, Copy)]
 pub struct Cursor {
     pub at: usize,
 }
 
 // A section's count, read, and the cursor behind the section's records.
-#[derive(Drop)]
+#[derive(Clone, Copy)]
 pub enum Counted {
     Found(Section, Cursor),
     Missing,
 }
 
 // A record, read, and the cursor behind it.
-#[derive(Drop)]
+#[derive(Clone, Copy)]
 pub struct FieldRead {
     pub field: Field,
     pub next: Cursor,
 }
 
-#[derive(Drop)]
+#[derive(Clone, Copy)]
 pub struct NameRead {
     pub name: Name,
     pub next: Cursor,
 }
 
-#[derive(Drop)]
+#[derive(Clone, Copy)]
 pub struct ConstructorRead {
     pub constructor: Constructor,
     pub next: Cursor,
 }
 
-#[derive(Drop)]
+#[derive(Clone, Copy)]
 pub struct OperandRead {
     pub operand: Operand,
     pub next: Cursor,
 }
 
-#[derive(Drop)]
+#[derive(Clone, Copy)]
 pub struct PieceRead {
     pub piece: Piece,
     pub next: Cursor,
 }
 
-#[derive(Drop)]
+#[derive(Clone, Copy)]
 pub struct LetterRead {
     pub letter: u8,
     pub next: Cursor,
 }
 
 // An expression is read by its place, step by step.
-#[derive(Drop)]
+#[derive(Clone, Copy)]
 pub struct ExpressionRead {
     pub place: usize,
     pub next: Cursor,

@@ -1,4 +1,6 @@
 // The instruction at a place of the code and at an address: the walk, and then the values of its computed operands.
+#![tactic(auto)]
+
 ghost use Rattle.std.specs.Prelude.{◌≡◌, ◌+◌, ◌-◌, ◌^◌, ◌<◌, ◌≤◌, length};
 ghost use Rattle.format.specs.Numbers.{longest, most_rows};
 ghost use Rattle.setting.specs.Fixed.{Fixed, setting_in};
@@ -19,7 +21,7 @@ const COLUMNS: usize = scratch_rows::COLUMNS;
 const OPERANDS: usize = format::OPERANDS_EACH as usize;
 
 // The values were put in, or the place of the first operand that has a value outside.
-#[derive(Drop)]
+#[derive(Clone, Copy)]
 enum Settled {
     AllInside,
     OutsideAt(u16),
@@ -27,7 +29,7 @@ enum Settled {
 
 // An instruction without its rows: its length and its root's constructor, or its refusal. Two numbers, and no whole state: the state's
 // numbers would be copied in pairs, for which the processor waits.
-#[derive(Drop)]
+#[derive(Clone, Copy)]
 pub enum Stepped {
     Whole { length: usize, constructor: usize },
     Refused(Refusal),

@@ -1,4 +1,6 @@
 // The listing program, on description S and four bytes of code.
+#![tactic(auto)]
+
 fn main() {
     listing_run::run();
 }

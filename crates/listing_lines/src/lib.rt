@@ -1,4 +1,6 @@
 // One line of a listing: the address, then the instruction's text, or what stands for it.
+#![tactic(auto)]
+
 ghost use Rattle.std.specs.Prelude.{◌≡◌, ◌+◌, ◌<◌, ◌≤◌, length};
 ghost use Rattle.format.specs.Numbers.{longest_text};
 ghost use Rattle.printing.specs.Writing.{over};
@@ -16,7 +18,7 @@ use text::Line;
 use walk_steps::Walked;
 
 // How many bytes are shown at a place, and the next place.
-#[derive(Drop)]
+#[derive(Clone, Copy)]
 pub struct Shown {
     pub size: usize,
     pub next: usize,

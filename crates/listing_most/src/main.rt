@@ -1,4 +1,6 @@
 // The listing program, on more code than is listed.
+#![tactic(auto)]
+
 fn main() {
     listing_run::run();
 }

@@ -1,4 +1,6 @@
 // The parts of a listing's line: the address, the bytes of a gap, the line of a bad description.
+#![tactic(auto)]
+
 ghost use Rattle.std.specs.Prelude.{[], ◌∷◌, ◌++◌, ◌⊎◌, ◌≡◌, ◌+◌, ◌*◌, ◌%◌, ◌≤◌, length};
 ghost use Rattle.format.specs.Numbers.{longest_text};
 ghost use Rattle.printing.specs.Numerals.{digit_of, digits_of};
@@ -12,7 +14,7 @@ use printing::Printed;
 pub const LINE: usize = 16 + 2 + format::TEXT + 1;
 
 // The one line of a bad description, with zeros behind it, and its size.
-#[derive(Drop)]
+#[derive(Clone, Copy)]
 pub struct FaultLine {
     pub bytes: [u8; LINE],
     pub size: usize,

@@ -1,4 +1,6 @@
 // A listing in parts: as many whole lines as fit, from a place on.
+#![tactic(auto)]
+
 ghost use Rattle.std.specs.Prelude.{true, ◌≡◌, ◌+◌, min, length};
 ghost use Rattle.alignment.specs.Alignment.{is_alignment};
 ghost use Rattle.format.specs.Check.{WellFormed};
@@ -11,7 +13,7 @@ use format::Layout;
 use printing::Printed;
 
 // How many bytes and lines were written, the next place, and whether the text is what ended them.
-#[derive(Drop)]
+#[derive(Clone, Copy)]
 pub struct Part {
     pub bytes: usize,
     pub lines: usize,
@@ -19,7 +21,7 @@ pub struct Part {
     pub full: bool,
 }
 
-#[derive(Drop)]
+#[derive(Clone, Copy)]
 pub enum Listed {
     Done(Part),
     Rejected(Rejection),
@@ -27,7 +29,7 @@ pub enum Listed {
 }
 
 // The description is input[start..end], the code input[end..last].
-#[derive(Drop)]
+#[derive(Clone, Copy)]
 pub struct Split {
     pub start: usize,
     pub end: usize,

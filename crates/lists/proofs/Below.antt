@@ -6,9 +6,9 @@ use native.Mathlib.Numerals.{add-one}
 use native.Mathlib.Decide.{dec_lt}
 use native.Mathlib.Omega.{arith}
 use lib.Dec.{ltb}
-use borrow.Author.Tests.{lt-ltb, le-ltb, ltb-true, ltb-false}
+use borrow.Author.Tests.{ltb-true, ltb-false}
 use Rattle.lists.specs.Below.{all_below, any_below, first_below}
-use Rattle.lists.proofs.Bools.{and_left, and_right, and_both, and_no, or_yes}
+use Rattle.lists.proofs.Bools.{and_both, and_no, or_yes}
 
 module _ (ok : ℕ → Bool) where
   -- before the first turn

@@ -1,4 +1,6 @@
 // Patterns on machine words: no loop over bits.
+#![tactic(auto)]
+
 ghost use Rattle.std.specs.Prelude.{◌≡◌, ◌-◌, ◌<◌, ◌*◌, ◌^◌, length};
 ghost use Rattle.format.specs.Bytes.{u64_at};
 ghost use Rattle.patterns.specs.Relations.{inside, overlap, overlap_of, equal, weight};
@@ -11,7 +13,7 @@ pub const ALL: u64 = 18446744073709551615;
 
 // The first eight bytes of the code as a number, missing ones 0, the bits that are here and those that are missing, and the
 // context. Made once for a choice.
-#[derive(Drop)]
+#[derive(Clone, Copy)]
 pub struct Input {
     pub word: u64,
     pub here: u64,

@@ -1,11 +1,13 @@
 // Bytes and numbers, written into a lent part of a text.
+#![tactic(auto)]
+
 ghost use Rattle.std.specs.Prelude.{◌⊎◌, ◌≡◌, ◌∷◌, ◌++◌, ◌≤◌, ◌<◌, ◌/◌, ◌%◌, nat_abs, length, drop};
 ghost use Rattle.printing.specs.Ending.{Ends};
 ghost use Rattle.printing.specs.Numerals.{digit_of, digits_of, prefix_text, number_text};
 ghost use Rattle.printing.specs.Writing.{Puts};
 
 // How many bytes were written; or that they had no room, and none was.
-#[derive(Drop)]
+#[derive(Clone, Copy)]
 pub enum Printed {
     Wrote(usize),
     Full,

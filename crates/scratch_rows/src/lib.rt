@@ -1,4 +1,6 @@
 // The scratch rows, read by their places.
+#![tactic(auto)]
+
 ghost use Rattle.std.specs.Prelude.{◌≡◌, ◌<◌, pos, nat_abs, length, get_or};
 
 // The numbers of a row.

@@ -1,4 +1,6 @@
 // The places of a description's sections, found in one pass over the counts, and the records that stand there.
+#![tactic(auto)]
+
 ghost use Rattle.std.specs.Prelude.{◌≡◌, ◌+◌, ◌*◌, ◌<◌, get_or};
 ghost use Rattle.format.specs.Layout.{SectionsInBounds, layout_of, names_from, constructors_from, operands_from, pieces_from, text_from, expressions_from};
 ghost use Rattle.format.specs.Numbers.{expression_bytes};

@@ -1,4 +1,6 @@
 // What is fixed along a walk, as numbers behind one reference, and what is read through it.
+#![tactic(auto)]
+
 ghost use Rattle.std.specs.Prelude.{◌++◌, ◌≡◌, ◌+◌, ◌-◌, ◌<◌, ◌≤◌, length, get_or, take, drop, true};
 ghost use Rattle.format.specs.Numbers.{tables};
 ghost use Rattle.format.specs.Check.{WellFormed};

@@ -1,4 +1,6 @@
 // Sweeping a code buffer: a row for each instruction and each gap.
+#![tactic(auto)]
+
 ghost use Rattle.std.specs.Prelude.{true, ◌≡◌, ◌+◌, ◌-◌, ◌*◌, ◌<◌, ◌≤◌, ◌^◌, length};
 ghost use Rattle.alignment.specs.Alignment.{is_alignment};
 ghost use Rattle.format.specs.Numbers.{sweep_numbers};
@@ -15,14 +17,14 @@ use instructions::Stepped;
 use setting::FIXED;
 
 // Why a sweep ended: the code is used up, no whole row is left, or the code is short.
-#[derive(Drop)]
+#[derive(Clone, Copy)]
 pub enum End {
     Used,
     Full,
     Short,
 }
 
-#[derive(Drop)]
+#[derive(Clone, Copy)]
 pub enum Swept {
     Ended { why: End, rows: usize, next: usize },
     Rejected(Rejection),
@@ -30,7 +32,7 @@ pub enum Swept {
 }
 
 // What a place comes to: a row's length, answer and root constructor, or that the code is short there.
-#[derive(Drop)]
+#[derive(Clone, Copy)]
 pub enum Step {
     Row {
         length: usize,

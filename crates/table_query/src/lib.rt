@@ -1,4 +1,6 @@
 // Asking one table of any description.
+#![tactic(auto)]
+
 ghost use Rattle.std.specs.Prelude.{◌≡◌, ◌+◌, ◌<◌};
 ghost use Rattle.format.specs.Layout.{SectionsInBounds};
 ghost use Rattle.format.specs.Check.{WellFormed};
@@ -13,7 +15,7 @@ use choosing_spec::Choice;
 use format::Layout;
 use tables::Table;
 
-#[derive(Drop)]
+#[derive(Clone, Copy)]
 pub enum Asked {
     Done { constructor: usize, weight: u32 },
     Rejected(Rejection),

@@ -1,4 +1,6 @@
 // The tables of a well-formed description: the root, and where a table's constructors stand.
+#![tactic(auto)]
+
 ghost use Rattle.std.specs.Prelude.{◌&&◌, ◌≡◌, ◌<◌, ltb};
 ghost use Rattle.format.specs.Layout.{SectionsInBounds};
 ghost use Rattle.format.specs.Description.{description};
@@ -13,7 +15,7 @@ use format::Layout;
 pub const STARTS: usize = (format::TABLES as usize) + 1;
 
 // A table's constructors: so many records of section 3 from the first on.
-#[derive(Drop)]
+#[derive(Clone, Copy)]
 pub struct Table {
     pub first: usize,
     pub count: usize,

@@ -1,4 +1,6 @@
 // The text of a decoded instruction, printed from the scratch rows that the walk has left.
+#![tactic(auto)]
+
 ghost use Rattle.std.specs.Prelude.{◌⊎◌, ◌≡◌, ◌+◌, ◌<◌, ◌≤◌, length};
 ghost use Rattle.format.specs.Numbers.{most_rows};
 ghost use Rattle.fields.specs.Look.{look_of};
@@ -139,7 +141,7 @@ fn print_value(
 }
 
 // A piece of the constructor at row r.
-#[cycle(print_constructor_print_part_print_piece)]
+#[cycle(print)]
 fn print_piece(
     desc: &[u8],
     fixed: &[usize; FIXED],
@@ -164,7 +166,7 @@ fn print_piece(
 }
 
 // The constructor at row r: its pieces in order, each behind the bytes already written.
-#[cycle(print_constructor_print_part_print_piece)]
+#[cycle(print)]
 fn print_constructor(
     desc: &[u8],
     fixed: &[usize; FIXED],
@@ -200,7 +202,7 @@ fn print_constructor(
 }
 
 // The part at row r: a constructor, or a value.
-#[cycle(print_constructor_print_part_print_piece)]
+#[cycle(print)]
 fn print_part(
     desc: &[u8],
     fixed: &[usize; FIXED],
@@ -221,7 +223,7 @@ fn print_part(
 }
 
 // How many bytes a whole text has; or that it is too long, or longer than the lent part.
-#[derive(Drop)]
+#[derive(Clone, Copy)]
 pub enum Line {
     Written(usize),
     TextTooLong,

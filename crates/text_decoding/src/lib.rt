@@ -1,4 +1,6 @@
 // Decoding one instruction of any bytes to text.
+#![tactic(auto)]
+
 ghost use Rattle.std.specs.Prelude.{◌≡◌, length};
 ghost use Rattle.format.specs.Check.{WellFormed};
 ghost use Rattle.format.specs.Description.{description};
@@ -10,7 +12,7 @@ use format::Layout;
 use text::Line;
 use walk_steps::Walked;
 
-#[derive(Drop)]
+#[derive(Clone, Copy)]
 pub enum Texted {
     Done(usize),
     Rejected(Rejection),

@@ -1,4 +1,6 @@
 // The field read as a C function of its own, so that it can be timed alone, and the read that it replaced. No part of the library.
+#![tactic(auto)]
+
 ghost use Rattle.std.specs.Prelude.{◌≡◌, ◌<◌, ◌≤◌, length};
 ghost use Rattle.fields.specs.Value.{Readable, token_byte, value_of};
 ghost use Rattle.fields.specs.Token.{token_of};

@@ -1,4 +1,6 @@
 // The decision tree of a table by the rule, for any bytes: its nodes are counted, then written.
+#![tactic(auto)]
+
 ghost use Rattle.std.specs.Prelude.{◌≡◌, ◌+◌, ◌*◌, ◌<◌, ◌≤◌, length};
 ghost use Rattle.format.specs.Check.{WellFormed};
 ghost use Rattle.format.specs.Description.{description};
@@ -17,7 +19,7 @@ use tree_building_spec::Node;
 use tree_counting::{Counted, Turn};
 
 // The bytes written, or what is refused: a clash with its pair of constructors, or a tree that has too many nodes or does not fit.
-#[derive(Drop)]
+#[derive(Clone, Copy)]
 pub enum Built {
     Done(usize),
     Rejected(Rejection),

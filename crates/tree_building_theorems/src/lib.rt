@@ -1,1 +1,2 @@
 // Theorems only: the rule for building trees decides every path of a clear table, and its tree passes the tree check.
+#![tactic(auto)]

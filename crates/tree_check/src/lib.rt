@@ -1,4 +1,6 @@
 // The check of a decision tree proposed for a table: its form, then its leaves by the rule on patterns.
+#![tactic(auto)]
+
 ghost use Rattle.std.specs.Prelude.{◌≡◌, ◌+◌, ◌-◌, ◌<◌, ◌≤◌};
 ghost use Rattle.format.specs.Layout.{SectionsInBounds};
 ghost use Rattle.format.specs.Check.{WellFormed};
@@ -20,7 +22,7 @@ use tree_spec::{Form, Verdict};
 
 // What the check of any bytes says: accepted, or the first wrong leaf with eight bytes, as a little-endian number, and a context
 // that prove it wrong; or what document 01 refuses.
-#[derive(Drop)]
+#[derive(Clone, Copy)]
 pub enum Answer {
     Accepted,
     WrongLeaf {
@@ -81,7 +83,7 @@ fn named_by(desc: &[u8], layout: Layout, table: Table, v: usize) -> Pattern
 }
 
 // The first wrong leaf, and the record of the table that shows it.
-#[derive(Drop)]
+#[derive(Clone, Copy)]
 pub enum Found {
     At(usize, usize),
     Nothing,

@@ -1,5 +1,7 @@
 // The nodes of the tree that the rule makes for a table, looked at one after the other without writing any. A path's tests ascend, so
 // that a path, as a pattern, says by itself which side comes next, and nothing calls itself.
+#![tactic(auto)]
+
 ghost use Rattle.std.specs.Prelude.{◌≡◌, ◌<◌};
 ghost use Rattle.choosing.specs.Patterns.{patterns_in};
 ghost use Rattle.choosing_spec.specs.ValidPattern.{ValidPattern};
@@ -13,13 +15,13 @@ use tables::Table;
 use tree_building_spec::Node;
 
 // Behind a path whose tree is finished: the whole tree is finished, or the path to the next side.
-#[derive(Drop)]
+#[derive(Clone, Copy)]
 pub enum Turn {
     Whole,
     Side(Pattern),
 }
 
-#[derive(Drop)]
+#[derive(Clone, Copy)]
 pub enum Counted {
     Nodes(usize),
     TooMany,

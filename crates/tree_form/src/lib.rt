@@ -1,4 +1,6 @@
 // The form of a decision tree, judged in one pass over its nodes.
+#![tactic(auto)]
+
 ghost use Rattle.std.specs.Prelude.{cond, not, ◌&&◌, ◌≡◌, ℕ, ◌+◌, ◌*◌, ◌<◌, ◌≤◌, min, ltb, eqb, length};
 ghost use Rattle.bits.specs.Bits.{is_set};
 ghost use Rattle.tree_spec.specs.Nodes.{no_place, count_of, kind_at, bit_at, place_at};

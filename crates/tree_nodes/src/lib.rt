@@ -1,4 +1,6 @@
 // The rule's node at the end of a path: one pass over the table's patterns, on machine words.
+#![tactic(auto)]
+
 ghost use Rattle.std.specs.Prelude.{◌≡◌};
 ghost use Rattle.std.specs.Int.Count.{count_trailing_zeros};
 ghost use Rattle.choosing.specs.Patterns.{patterns_in};
@@ -12,7 +14,7 @@ use tables::Table;
 use tree_building_spec::Node;
 
 // What the live patterns come to: all their masks, and the last one that masked all of them so far, as a leaf's place.
-#[derive(Drop)]
+#[derive(Clone, Copy)]
 pub struct Live {
     pub mask: u64,
     pub context: u32,

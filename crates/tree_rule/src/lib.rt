@@ -1,4 +1,6 @@
 // Wrong leaves of decision trees, by a rule on patterns: whole words, no loop.
+#![tactic(auto)]
+
 ghost use Rattle.std.specs.Prelude.{◌≡◌};
 ghost use Rattle.tree_rule.specs.Rule.{refutes, filled};
 

@@ -1,7 +1,8 @@
 // What the check of a decision tree goes through and answers. The meaning is in specs/.
+#![tactic(auto)]
 
 // The form of a tree: good, or the first bad node, or NO_PLACE.
-#[derive(Drop)]
+#[derive(Clone, Copy)]
 pub enum Form {
     Good,
     Bad(usize),
@@ -9,7 +10,7 @@ pub enum Form {
 
 // A subtree, read from its first node: the node behind it and the lowest node in it whose one side stands elsewhere, or
 // NO_PLACE; a bad node; or the nodes ran out.
-#[derive(Drop)]
+#[derive(Clone, Copy)]
 pub enum Subtree {
     End { next: usize, side: usize },
     Fault(usize),
@@ -18,7 +19,7 @@ pub enum Subtree {
 
 // The check of a tree of good form: accepted, or the first wrong leaf with eight bytes, as a little-endian number, and a context
 // that prove it wrong.
-#[derive(Drop)]
+#[derive(Clone, Copy)]
 pub enum Verdict {
     Accepted,
     Rejected {

@@ -1,1 +1,2 @@
 // The leaves of a decision tree.
+#![tactic(auto)]

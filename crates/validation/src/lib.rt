@@ -1,4 +1,6 @@
 // The check of a description: its first fault, or the places of its sections.
+#![tactic(auto)]
+
 ghost use Rattle.std.specs.Prelude.{◌≡◌, ◌+◌, ◌≤◌, length};
 ghost use Rattle.lists.specs.Below.{all_below};
 ghost use Rattle.format.specs.Bytes.{byte_at};

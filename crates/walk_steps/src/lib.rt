@@ -1,4 +1,6 @@
 // The walk's steps that ask no table: a field, a computed operand, a constructor's end; and the scratch rows that they write.
+#![tactic(auto)]
+
 ghost use Rattle.std.specs.Prelude.{[], ◌∷◌, ◌≡◌, ◌+◌, ◌<◌, ◌≤◌, max, length, get_or};
 ghost use Rattle.format.specs.Numbers.{longest, most_rows};
 ghost use Rattle.fields.specs.Value.{Readable};
@@ -21,7 +23,7 @@ pub const SCRATCH: usize = SCRATCH_NUMBERS * format::ROWS;
 const LONGEST: usize = format::LONGEST as usize;
 
 // The state behind a walk, and its length; or the refusal.
-#[derive(Drop)]
+#[derive(Clone, Copy)]
 pub enum Walked {
     Done { state: State, length: usize },
     Refused(Refusal),

@@ -1,4 +1,6 @@
 // The walk over an instruction: from the root to its operands, each inner table in turn.
+#![tactic(auto)]
+
 ghost use Rattle.std.specs.Prelude.{◌≡◌, ◌<◌, ◌≤◌, min, length};
 ghost use Rattle.format.specs.Numbers.{tables};
 ghost use Rattle.setting.specs.Fixed.{Fixed, setting_in};
@@ -18,7 +20,7 @@ const ENDS: usize = format::OPERANDS_EACH as usize + 1;
 const LONGEST: usize = format::LONGEST as usize;
 
 // What a choice comes to: a constructor's number, or a refusal.
-#[derive(Drop)]
+#[derive(Clone, Copy)]
 enum Chosen {
     Number(usize),
     Refused(Refusal),
@@ -53,7 +55,7 @@ fn judge(choice: Choice, at: usize, table: u8) -> Chosen
 }
 
 // An operand that starts so far behind its constructor; past the code's end that is no bytes.
-#[cycle(walk_constructor_walk_operand_walk_operands_walk_table)]
+#[cycle(walk)]
 fn walk_operand(
     desc: &[u8],
     fixed: &[usize; FIXED],
@@ -95,7 +97,7 @@ fn walk_operand(
 }
 
 // A constructor's operands in order: the state behind them, and the farthest end from the constructor's start.
-#[cycle(walk_constructor_walk_operand_walk_operands_walk_table)]
+#[cycle(walk)]
 fn walk_operands(
     desc: &[u8],
     fixed: &[usize; FIXED],
@@ -142,7 +144,7 @@ fn walk_operands(
 }
 
 // The constructor of this number, with its operands.
-#[cycle(walk_constructor_walk_operand_walk_operands_walk_table)]
+#[cycle(walk)]
 fn walk_constructor(
     desc: &[u8],
     fixed: &[usize; FIXED],
@@ -170,7 +172,7 @@ fn walk_constructor(
 }
 
 // A table at its place, with the code from there on.
-#[cycle(walk_constructor_walk_operand_walk_operands_walk_table)]
+#[cycle(walk)]
 fn walk_table(
     desc: &[u8],
     fixed: &[usize; FIXED],

@@ -1,4 +1,6 @@
 // Exact arithmetic on signed 64-bit numbers: the whole number that comes out, or that it lies outside.
+#![tactic(auto)]
+
 ghost use Rattle.std.specs.Prelude.{◌≡◌, ◌<◌, ◌+ℤ◌, ◌-ℤ◌, ◌*ℤ◌, nat_abs};
 ghost use Rattle.whole_numbers.specs.Range.{inside, kept};
 ghost use Rattle.whole_numbers.specs.Operators.{and_z, or_z, xor_z, left_z, right_z};
@@ -9,7 +11,7 @@ const LEAST: i64 = -9223372036854775808;
 const MOST: i64 = 9223372036854775807;
 
 // A whole number of signed 64 bits, or that it is outside them.
-#[derive(Drop)]
+#[derive(Clone, Copy)]
 pub enum Whole {
     Value(i64),
     Outside,

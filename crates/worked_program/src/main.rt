@@ -1,12 +1,16 @@
 // Runs document 01's worked cases that are not proved as theorems, and prints the answers: the number of document 01's table
 // and its values.
+#![tactic(auto)]
+
 ghost use Rattle.std.specs.Prelude.{◌≡◌, length};
 
 use acceptance::{Acceptance, Rejection};
-use libc::STDOUT_FILENO;
 use sweep::{End, Swept};
 use text_decoding::Texted;
 use tree_check::Answer;
+
+// The file descriptor of standard output.
+const STDOUT: i32 = 1;
 
 // Description S.
 const S: [u8; 216] = [
@@ -28,12 +32,12 @@ const TREE: [u8; 78] = [
 ];
 
 fn line(text: &[u8]) {
-    io::write_all(STDOUT_FILENO, text);
+    io::write_all(STDOUT, text);
 }
 
 fn number(n: usize) {
-    io::write_all(STDOUT_FILENO, b" ");
-    io::print_decimal(STDOUT_FILENO, n as u64);
+    io::write_all(STDOUT, b" ");
+    io::print_decimal(STDOUT, n as u64);
 }
 
 fn rejected(rejection: Rejection) {

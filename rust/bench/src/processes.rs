@@ -81,7 +81,7 @@ pub fn listing(description: &[u8], code: &[u8], starts: &[usize]) -> Result<Prog
     let path = Path::new(env!("CARGO_MANIFEST_DIR")).join(LISTING);
     if !path.is_file() {
         return Err(
-            "proved listing: not built, not timed; `rt check listing` builds it".to_string(),
+            "proved listing: not built, not timed; tools/build builds it".to_string(),
         );
     }
     let length = (description.len() as u16).to_le_bytes();

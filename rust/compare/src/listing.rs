@@ -67,7 +67,7 @@ pub fn program() -> PathBuf {
     let program = Path::new(env!("CARGO_MANIFEST_DIR")).join(chosen);
     if !program.is_file() {
         eprintln!("{}: no such program", program.display());
-        eprintln!("`rt check listing` builds it; {VARIABLE} may say where else it is");
+        eprintln!("tools/build builds it; {VARIABLE} may say where else it is");
         exit(2);
     }
     program

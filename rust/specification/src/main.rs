@@ -3,6 +3,7 @@
 //! than that page says.
 use std::collections::{BTreeMap, BTreeSet};
 use std::fs;
+use std::path::Path;
 
 /// The entry points, each a crate and a function of it; of the C face every function.
 const ENTRIES: [(&str, &str); 11] = [
@@ -25,6 +26,15 @@ const HEADING: &str = "## What a reader has to believe";
 /// A file of definitions: its crate and its name.
 type File = (String, String);
 
+fn path_of(file: &File) -> String {
+    format!("crates/{}/specs/{}.antt", file.0, file.1)
+}
+
+/// A word without the fields that are read of it, as in `no_name.length`.
+fn base(word: &str) -> &str {
+    word.split('.').next().unwrap_or(word)
+}
+
 /// Where the names that a file uses come from: each name, and each name that stands for a whole file.
 #[derive(Default)]
 struct Uses {
@@ -33,14 +43,14 @@ struct Uses {
 }
 
 impl Uses {
-    /// `use Rattle·CRATE.specs.FILE.{..}` or, of a crate's own, `use Rattle·CRATE·specs.specs.FILE.{..}`; or
-    /// `use .. as NAME`. Other lines, and the code's own types (`specs.declared`), bring no definition.
+    /// `use Rattle.CRATE.specs.FILE.{..}` or `use .. as NAME`. Other lines, the code's own types (`specs.declared`) and the kit's
+    /// libraries bring no definition.
     fn add(&mut self, line: &str) {
         let line = line.trim().trim_end_matches(';');
         let Some(rest) = line
             .strip_prefix("ghost ")
             .unwrap_or(line)
-            .strip_prefix("use Rattle·")
+            .strip_prefix("use Rattle.")
         else {
             return;
         };
@@ -53,10 +63,10 @@ impl Uses {
         if parts.len() != 3 || parts[1] != "specs" {
             return;
         }
-        let file = (
-            parts[0].trim_end_matches("·specs").to_string(),
-            parts[2].to_string(),
-        );
+        let file = (parts[0].to_string(), parts[2].to_string());
+        if !Path::new(&path_of(&file)).exists() {
+            return;
+        }
         match brought {
             Ok(name) => drop(self.files.insert(name.to_string(), file)),
             Err(names) => self
@@ -67,10 +77,13 @@ impl Uses {
 
     /// The definition that a word of this file names in another one.
     fn find(&self, word: &str) -> Option<(File, String)> {
-        if let Some((file, name)) = word.split_once('.') {
-            return self.files.get(file).map(|f| (f.clone(), name.to_string()));
+        let first = base(word);
+        if let (Some(file), Some(name)) = (self.files.get(first), word.split('.').nth(1)) {
+            return Some((file.clone(), name.to_string()));
         }
-        self.names.get(word).map(|f| (f.clone(), word.to_string()))
+        self.names
+            .get(first)
+            .map(|f| (f.clone(), first.to_string()))
     }
 }
 
@@ -179,7 +192,7 @@ fn reached() -> (BTreeSet<File>, usize) {
         .flat_map(|(home, f)| promised(home, f))
         .collect();
     while let Some((file, name)) = open.pop() {
-        let path = format!("crates/{}/specs/{}.antt", file.0, file.1);
+        let path = path_of(&file);
         let here = files.entry(file.clone()).or_insert_with(|| read(&path));
         // a constructor or a field stands inside the definition of its type
         let name = match here.words.contains_key(&name) {
@@ -193,8 +206,8 @@ fn reached() -> (BTreeSet<File>, usize) {
             continue;
         }
         for word in &here.words[&name] {
-            if here.words.contains_key(word) {
-                open.push((file.clone(), word.clone()));
+            if here.words.contains_key(base(word)) {
+                open.push((file.clone(), base(word).to_string()));
             } else if let Some(other) = here.uses.find(word) {
                 open.push(other);
             }

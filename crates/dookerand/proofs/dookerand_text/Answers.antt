@@ -1,0 +1,27 @@
+use mathlib.Core.Path.{sym, ◌∙◌}
+use Rattle.dookerand.proofs.dookerand_text.Goals as goal
+
+pub returns-in-Done : goal.returns-in-Done
+returns-in-Done c =
+    let e = sym c.decode_text-texted.ensures.value ∙ c.in-Done.is in
+    record { value = rw e; values_after = rw e; text_after = c.decode_text-texted.ensures.out_after }
+
+pub returns-in-Rejected : goal.returns-in-Rejected
+returns-in-Rejected c =
+    let e = sym c.decode_text-texted.ensures.value ∙ c.in-Rejected.is in
+    record { value = rw e c.reject.ensures.value; values_after = rw e c.reject.ensures.values_after; text_after = c.decode_text-texted.ensures.out_after }
+
+pub returns-in-Refused : goal.returns-in-Refused
+returns-in-Refused c =
+    let e = sym c.decode_text-texted.ensures.value ∙ c.in-Refused.is in
+    record { value = rw e c.refuse.ensures.value; values_after = rw e c.refuse.ensures.values_after; text_after = c.decode_text-texted.ensures.out_after }
+
+pub returns-in-TextTooLong : goal.returns-in-TextTooLong
+returns-in-TextTooLong c =
+    let e = sym c.decode_text-texted.ensures.value ∙ c.in-TextTooLong.is in
+    record { value = rw e; values_after = rw e; text_after = c.decode_text-texted.ensures.out_after }
+
+pub returns-in-NoRoom : goal.returns-in-NoRoom
+returns-in-NoRoom c =
+    let e = sym c.decode_text-texted.ensures.value ∙ c.in-NoRoom.is in
+    record { value = rw e; values_after = rw e; text_after = c.decode_text-texted.ensures.out_after }

@@ -1,0 +1,6 @@
+use Rattle.expressions.proofs.Records.{step-here}
+use Rattle.expressions.proofs.step_at.Goals as goal
+
+pub returns : goal.returns
+returns c =
+    rw c.quad.ensures (step-here c.args.s.now c.args.at c.args.i c.requires.1)

@@ -1,0 +1,14 @@
+use Rattle.format.specs.Rules.{operand_of, expression_fits}
+use Rattle.format.specs.Description.{description}
+use Rattle.lists.specs.Below.{all_below}
+use mathlib.Core.Path.{◌≡◌}
+use mathlib.Core.Bool.{true}
+use Prim.Native.Nat.{◌≤◌, ◌-◌}
+use Rattle.rules.proofs.expressions_fit.Given as goal
+
+abbrev pub invariant-loop-o : goal.invariant-loop-o
+invariant-loop-o l =
+    (l.o ≤ l.n) × (all_below l.o (λ k. expression_fits (description l.desc l.layout) l.c (operand_of (description l.desc l.layout) l.c k)) ≡ true)
+
+abbrev pub decreases-loop-o : goal.decreases-loop-o
+decreases-loop-o l = l.n - l.o

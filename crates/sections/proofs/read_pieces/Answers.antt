@@ -1,0 +1,11 @@
+use mathlib.Core.Path.{sym, ◌∙◌}
+use Rattle.format.specs.Layout.{pieces_from}
+use Rattle.sections.proofs.read_pieces.Goals as goal
+
+pub returns-in_default : goal.returns-in_default
+unfolding pieces_from
+returns-in_default c = rw (sym c.count.ensures ∙ c.in_default.is)
+
+pub returns : goal.returns
+unfolding pieces_from
+returns c = rw (sym c.count.ensures ∙ c.in-Found.is) c.read_text.ensures
