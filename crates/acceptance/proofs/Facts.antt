@@ -1,6 +1,6 @@
 -- What is accepted is well formed.
 use mathlib.Core.List.{List}
-use mathlib.Core.Path.{◌≡◌, refl, ap, ◌∙◌}
+use mathlib.Core.Path.{◌≡◌, ap}
 use native.Mathlib.Omega.{arith}
 use Prim.Native.Nat.{ℕ}
 use Rattle.format.specs.Check.{check_of, WellFormed}
@@ -9,7 +9,7 @@ use Rattle.format.specs.declared.Checked.TheVariants.{Good, Fault}
 use Rattle.format.specs.declared.Layout.{Layout}
 use Rattle.format.proofs.Formation.{formed}
 use Rattle.acceptance.specs.Acceptance.{accepted_by, acceptance_of}
-use Rattle.acceptance.specs.declared.Acceptance.TheVariants.{Accepted, Rejected}
+use Rattle.acceptance.specs.declared.Acceptance.TheVariants.{Accepted}
 
 pub accepted-good : (b : List ℕ) (l : Layout) → acceptance_of b ≡ Accepted l → check_of b ≡ Good l
 unfolding acceptance_of

@@ -4,7 +4,6 @@ use Rattle.format.specs.Check.{check_of}
 use Rattle.format.specs.Description.{Description, description}
 use Rattle.format.specs.declared.Checked.{Checked}
 use Rattle.format.specs.declared.Checked.TheVariants.{Good, Fault}
-use Rattle.format.specs.declared.Layout.{Layout}
 use Rattle.acceptance.specs.declared.Rejection.{Rejection}
 use Rattle.acceptance.specs.declared.Acceptance.{Acceptance}
 use Rattle.acceptance.specs.declared.Acceptance.TheVariants.{Accepted, Rejected}

@@ -36,7 +36,6 @@ use Rattle.clash_check.proofs.Facts.{pattern-sound}
 use Rattle.printing.specs.Writing.{over}
 use Rattle.tree_spec.specs.Nodes.{most_nodes}
 use Rattle.tree_spec.specs.Verdicts.{VerdictFor}
-use Rattle.tree_spec.specs.declared.Form.TheVariants.{Good}
 use Rattle.tree_spec.specs.declared.Verdict.{Verdict}
 use Rattle.tree_spec.specs.declared.Verdict.TheVariants as verdict
 use Rattle.tree_check.specs.Entry.{said, Answers}

@@ -1,5 +1,5 @@
 -- What the words settle is what choosing answers.
-use Prim.Native.Nat.{ℕ, ◌+◌, ◌*◌, ◌<◌, ◌^◌}
+use Prim.Native.Nat.{ℕ, ◌+◌, ◌*◌, ◌<◌}
 use mathlib.Core.Bool.{Bool, true, false, not}
 use mathlib.Core.List.{List}
 use mathlib.Core.Path.{◌≡◌, refl, sym, ap, fun_ext, ◌∙◌}
@@ -16,7 +16,7 @@ use Rattle.format.specs.Numbers.{constructor_bytes}
 use Rattle.format.specs.Record.{pattern_at, constructor_at}
 use Rattle.format.specs.declared.Section.{Section}
 use Rattle.format.proofs.Lists.{record-here, records-length}
-use Rattle.patterns.specs.Matching.{matches, cut_off}
+use Rattle.patterns.specs.Matching.{cut_off}
 use Rattle.patterns.specs.Words.{Small, input_of}
 use Rattle.patterns.specs.declared.Input.{Input}
 use Rattle.patterns.proofs.Bytes.{Holds, long-small, quad-small, input-holds}

@@ -1,8 +1,8 @@
 -- Document 01's facts about clear tables, for a table of a well-formed description.
 use Prim.Native.Nat.{ℕ, ◌+◌, ◌-◌, ◌<◌}
-use mathlib.Core.Bool.{Bool, true, ◌&&◌}
+use mathlib.Core.Bool.{true, ◌&&◌}
 use mathlib.Core.List.{List}
-use mathlib.Core.Path.{◌≡◌, sym}
+use mathlib.Core.Path.{◌≡◌}
 use native.Mathlib.Omega.{arith}
 use borrow.Author.Tests.{eqb-true}
 use lib.Bits.{bit_and}
@@ -17,8 +17,7 @@ use Rattle.format.specs.Rules.{constructor_ok, shape_ok, table_ok, minimum_ok, v
 use Rattle.format.specs.Tables.{table_first, table_end}
 use Rattle.format.specs.declared.Constructor.{Constructor}
 use Rattle.format.specs.declared.Layout.{Layout}
-use Rattle.format.specs.declared.Pattern.{Pattern}
-use Rattle.format.proofs.Formation.{RulesHold, obeyed}
+use Rattle.format.proofs.Formation.{obeyed}
 use Rattle.format.proofs.Tables.{shaped, first-within, end-within}
 use Rattle.choosing_spec.specs.Clashing.{clash_of}
 use Rattle.choosing_spec.specs.ValidPattern.{ValidPattern}

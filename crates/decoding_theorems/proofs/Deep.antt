@@ -6,7 +6,7 @@ use mathlib.Core.Path.{◌≡◌, refl, ap, ◌∙◌}
 use native.Mathlib.Omega.{arith}
 use borrow.Author.Tests.{le-leb}
 use lib.Dec.{ltb, eqb}
-use lib.ListN.{length, get_or, drop, set, replicate}
+use lib.ListN.{get_or, drop, set, replicate}
 use Rattle.format.specs.Numbers.{longest, most_rows, operands_each}
 use Rattle.format.specs.Description.{no_field, no_name, no_constructor, no_operand}
 use Rattle.format.specs.Tables.{root_of}

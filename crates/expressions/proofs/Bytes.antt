@@ -18,7 +18,7 @@ use Rattle.format.specs.Expression.{Expression, expression_at, step_at, no_step,
 use Rattle.format.specs.declared.Step.{Step}
 use Rattle.whole_numbers.proofs.Kept.{inside-mag}
 use Rattle.expressions.specs.Value.{Given, value_of}
-use Rattle.expressions.specs.Tree.{Term, constant, operand, address, addressAfter, Operator, plus, minus, times, and, or, xor, Direction, left, right, Tree, leaf, shift, pair, whole_in, term_fits, fits, word_of, term_step, operator_step, shift_step, steps_of, written, word_bytes, bytes_of_step, bytes_of_steps, bytes_of}
+use Rattle.expressions.specs.Tree.{Term, constant, operand, address, address_after, Operator, plus, minus, times, and, or, xor, Direction, left, right, Tree, leaf, shift, pair, whole_in, term_fits, fits, word_of, term_step, operator_step, shift_step, steps_of, written, word_bytes, bytes_of_step, bytes_of_steps, bytes_of}
 use Rattle.expressions.proofs.Trees.{empty-behind, written-value, written-right}
 
 step-long : (s : Step) → length (bytes_of_step s) ≡ step_bytes
@@ -132,7 +132,7 @@ term-small (constant (pos n)) f = record { kind = omega arith; value = omega (ar
 term-small (constant (negsuc n)) f = record { kind = omega arith; value = omega arith }
 term-small (operand n) f = record { kind = omega arith; value = omega (arith, ltb-true n 256 f) }
 term-small address f = record { kind = omega arith; value = omega arith }
-term-small addressAfter f = record { kind = omega arith; value = omega arith }
+term-small address_after f = record { kind = omega arith; value = omega arith }
 
 operator-small : (o : Operator) → Small (operator_step o)
 unfolding operator_step

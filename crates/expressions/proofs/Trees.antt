@@ -21,7 +21,7 @@ use Rattle.format.specs.declared.Step.{Step}
 use Rattle.whole_numbers.specs.Range.{inside}
 use Rattle.whole_numbers.proofs.Kept.{inside-mag}
 use Rattle.expressions.specs.Value.{Given, given, constant_of, term_of, operator_of, made_of, step_on, stack_after, top_after, value_of}
-use Rattle.expressions.specs.Tree.{Term, constant, operand, address, addressAfter, Operator, plus, minus, times, and, or, xor, Direction, left, right, Tree, leaf, shift, pair, term_in, applied, shifted, value_in, inside_in, whole_in, term_fits, fits, word_of, term_step, operator_step, shift_step, steps_of, written}
+use Rattle.expressions.specs.Tree.{Term, constant, operand, address, address_after, Operator, plus, minus, times, and, or, xor, Direction, left, right, Tree, leaf, shift, pair, term_in, applied, shifted, value_in, inside_in, whole_in, term_fits, fits, word_of, term_step, operator_step, shift_step, steps_of, written}
 use Rattle.expressions.proofs.Records.{passes, blank, all-written}
 use Rattle.expressions.proofs.Running.{stack-length}
 
@@ -39,7 +39,7 @@ unfolding made_of term_of term_step term_in term_fits
 term_made g (constant z) x y f = word_back z f
 term_made g (operand n) x y f = refl
 term_made g address x y f = refl
-term_made g addressAfter x y f = refl
+term_made g address_after x y f = refl
 
 operator-made : (g : Given) (o : Operator) (x y : ℤ) → made_of g (operator_step o) x y ≡ applied o x y
 unfolding made_of operator_of operator_step applied
@@ -61,7 +61,7 @@ unfolding term_step
 term-takes (constant z) = refl
 term-takes (operand n) = refl
 term-takes address = refl
-term-takes addressAfter = refl
+term-takes address_after = refl
 
 operator-takes : (o : Operator) → takes (operator_step o).kind ≡ 2
 unfolding operator_step
@@ -82,7 +82,7 @@ unfolding term_step term_fits step_value_ok
 term-ok (constant z) f = refl
 term-ok (operand n) f = rw f
 term-ok address f = refl
-term-ok addressAfter f = refl
+term-ok address_after f = refl
 
 operator-ok : (o : Operator) → step_value_ok (operator_step o) ≡ true
 unfolding operator_step step_value_ok

@@ -1,5 +1,5 @@
 -- An expression as one writes it: its value, its steps, and the record that writes it.
-use Rattle.std.specs.Prelude.{ℕ, zero, suc, ◌+◌, ◌-◌, ◌/◌, ◌%◌, ◌^◌, Bool, true, cond, ◌&&◌, List, [], ◌∷◌, ◌++◌, ltb, ℤ, pos, negsuc, ◌+ℤ◌, ◌-ℤ◌, ◌*ℤ◌, length, get_or, replicate}
+use Rattle.std.specs.Prelude.{ℕ, zero, suc, ◌-◌, ◌/◌, ◌%◌, ◌^◌, Bool, true, cond, ◌&&◌, List, [], ◌∷◌, ◌++◌, ltb, ℤ, pos, negsuc, ◌+ℤ◌, ◌-ℤ◌, ◌*ℤ◌, length, get_or, replicate}
 use Rattle.format.specs.Numbers.{most_steps, byte_values}
 use Rattle.format.specs.Expression.{Expression, no_step, shifts}
 use Rattle.format.specs.declared.Step.{Step}
@@ -13,7 +13,7 @@ use Rattle.expressions.specs.Value.{Given}
 pub data Term : Type 0 where
   constant : ℤ → Term
   operand : ℕ → Term
-  address addressAfter : Term
+  address address_after : Term
 
 -- "plus, minus, times, and, or, exclusive or"
 pub data Operator : Type 0 where
@@ -32,7 +32,7 @@ unfoldable pub term_in : Given → Term → ℤ
 term_in g (constant z) = z
 term_in g (operand n) = get_or g.operands (n - 1) (pos 0)
 term_in g address = pos g.here
-term_in g addressAfter = pos g.after
+term_in g address_after = pos g.after
 
 unfoldable pub applied : Operator → ℤ → ℤ → ℤ
 applied plus x y = x +ℤ y
@@ -65,7 +65,7 @@ unfoldable pub term_fits : Term → Bool
 term_fits (constant z) = inside z
 term_fits (operand n) = ltb n byte_values
 term_fits address = true
-term_fits addressAfter = true
+term_fits address_after = true
 
 unfoldable pub fits : Tree → Bool
 fits (leaf t) = term_fits t
@@ -81,7 +81,7 @@ unfoldable pub term_step : Term → Step
 term_step (constant z) = record { kind = 0; value = word_of z }
 term_step (operand n) = record { kind = 1; value = n }
 term_step address = record { kind = 2; value = 0 }
-term_step addressAfter = record { kind = 3; value = 0 }
+term_step address_after = record { kind = 3; value = 0 }
 
 unfoldable pub operator_step : Operator → Step
 operator_step plus = record { kind = 4; value = 0 }

@@ -12,7 +12,7 @@ use lib.Signed.{mag}
 use mir.Facts.{to_z-of_z, to_z_pos}
 use mir.Syntax.{w64}
 use mir.Val.{SFits, to_z, of_z}
-use Rattle.bits.specs.Bits.{bit, is_set}
+use Rattle.bits.specs.Bits.{is_set}
 use Rattle.fields.specs.Look.{signed_of, number_of}
 use Rattle.fields.proofs.Tokens.{one_shifted}
 

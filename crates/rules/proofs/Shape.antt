@@ -1,5 +1,5 @@
 -- What a constructor's shape shows: its operands and pieces lie in their sections.
-use Prim.Native.Nat.{ℕ, ◌+◌, ◌≤◌}
+use Prim.Native.Nat.{ℕ, ◌+◌}
 use mathlib.Core.Bool.{Bool, true, ◌&&◌}
 use mathlib.Core.Path.{◌≡◌}
 use borrow.Author.Tests.{leb-true}

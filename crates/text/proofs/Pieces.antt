@@ -1,7 +1,7 @@
 -- What the text uses of a well-formed description: its names' and its pieces' letters lie inside the text, and a constructor's pieces show
 -- operands that it has.
 use Prim.Native.Nat.{ℕ, ◌+◌, ◌≤◌, ◌<◌}
-use mathlib.Core.Bool.{true, ◌&&◌, ◌||◌, not, or-false}
+use mathlib.Core.Bool.{true, ◌&&◌, not, or-false}
 use mathlib.Core.Path.{◌≡◌}
 use native.Mathlib.Omega.{arith}
 use borrow.Author.Tests.{leb-true, eqb-true, ne_eqb}
@@ -13,8 +13,6 @@ use Rattle.lists.proofs.Bools.{and_left, and_right}
 use Rattle.format.specs.Numbers.{operands_each, pieces_each}
 use Rattle.format.specs.Description.{Description, no_name, no_constructor, no_piece}
 use Rattle.format.specs.Rules.{constructor_ok, shape_ok, table_ok, minimum_ok, value_ok, range_ok, operand_fits, piece_of, piece_fits, piece_ok, shows, name_ok}
-use Rattle.format.specs.declared.Name.{Name}
-use Rattle.format.specs.declared.Range.{Range}
 use Rattle.format.specs.declared.Constructor.{Constructor}
 use Rattle.format.specs.declared.Piece.{Piece}
 use Rattle.format.proofs.Formation.{RulesHold}

@@ -1,7 +1,6 @@
 -- "Text: pieces in order, each written directly after the bytes already written; inner constructors print in place."
 use Rattle.std.specs.Prelude.{ℕ, zero, suc, ◌+◌, ◌-◌, cond, List, [], ◌∷◌, ◌++◌, eqb, ℤ, get_or, take, drop}
 use Rattle.format.specs.Description.{Description, no_field, no_name, no_constructor, no_piece}
-use Rattle.format.specs.declared.Name.{Name}
 use Rattle.format.specs.declared.Piece.{Piece}
 use Rattle.fields.specs.Look.{look_of}
 use Rattle.fields.specs.declared.Look.{Look}

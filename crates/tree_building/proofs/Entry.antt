@@ -27,7 +27,7 @@ use Rattle.tree_spec.specs.Verdicts.{bytes_of}
 use Rattle.tree_building_spec.specs.Tree.{Tree, tree_of, size_of, tree_bytes}
 use Rattle.tree_building_theorems.proofs.Laid.{size-some, stands-bytes, laid-length}
 use Rattle.tree_nodes.specs.Ready.{Ready}
-use Rattle.tree_building.specs.Building.{grown, refused, fits, lent, outcome_for, Builds}
+use Rattle.tree_building.specs.Building.{grown, refused, fits, outcome_for, Builds}
 use Rattle.tree_counting.specs.Counting.{counted_of}
 use Rattle.tree_building.specs.Room.{most_in}
 use Rattle.tree_building.specs.Writing.{PutsWord, PutsTree}

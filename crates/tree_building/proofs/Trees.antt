@@ -1,5 +1,5 @@
 -- A tree that is written node by node, each test's place when its zero side is done, stands at the end.
-use Prim.Native.Nat.{ℕ, zero, suc, ◌+◌, ◌*◌, ◌<◌, ◌≤◌}
+use Prim.Native.Nat.{ℕ, suc, ◌+◌, ◌*◌, ◌<◌, ◌≤◌}
 use mathlib.Core.Bool.{false≢true}
 use mathlib.Core.List.{List}
 use mathlib.Core.Logic.{◌⊎◌, inl, inr}
@@ -13,7 +13,7 @@ use Rattle.choosing_spec.specs.declared.Clash.TheVariants.{Clear}
 use Rattle.tree_spec.specs.Nodes.{kind_at, bit_at, place_at}
 use Rattle.tree_spec.specs.Form.{start, side}
 use Rattle.tree_building_spec.specs.Rule.{kind_of, bit_of, node_of}
-use Rattle.tree_building_spec.specs.Tree.{Tree, leaf, test, tree_of, size_of}
+use Rattle.tree_building_spec.specs.Tree.{Tree, tree_of, size_of}
 use Rattle.tree_building_spec.specs.declared.Node.TheVariants.{Leaf, Test}
 use Rattle.tree_building_theorems.specs.Numbered.{longer}
 use Rattle.tree_building_theorems.specs.Growth.{tree_at}

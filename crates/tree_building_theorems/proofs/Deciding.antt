@@ -10,7 +10,6 @@ use lib.Dec.{eqb}
 use Rattle.lists.specs.Below.{all_below, any_below, first_below}
 use Rattle.lists.proofs.Below.{First, all-at, all_of, any_at, any_found, first-is, first-here, first_done}
 use Rattle.lists.proofs.Bools.{and_left, and_right, and_both, and3, or_yes}
-use Rattle.bits.specs.Bits.{bit}
 use Rattle.format.specs.declared.Pattern.{Pattern}
 use Rattle.patterns.specs.Relations.{inside}
 use Rattle.choosing_spec.specs.Choosing.{matching}

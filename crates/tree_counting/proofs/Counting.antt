@@ -12,7 +12,7 @@ use Rattle.choosing_spec.specs.declared.Clash.TheVariants.{Clear}
 use Rattle.tree_spec.specs.Nodes.{no_place}
 use Rattle.tree_spec.specs.Form.{side}
 use Rattle.tree_building_spec.specs.Rule.{kind_of, bit_of, node_of}
-use Rattle.tree_building_spec.specs.Tree.{leaf, tree_of, size_of}
+use Rattle.tree_building_spec.specs.Tree.{tree_of, size_of}
 use Rattle.tree_building_spec.specs.declared.Node.{Node}
 use Rattle.tree_building_spec.specs.declared.Node.TheVariants.{Leaf, Test}
 use Rattle.tree_building_theorems.specs.Numbered.{longer}

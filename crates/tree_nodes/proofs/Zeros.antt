@@ -6,7 +6,7 @@ use native.Mathlib.Numerals.{one-add}
 use native.Mathlib.Omega.{arith}
 use lib.Count.{count_trailing_zeros, under}
 use lib.Pow.{shr-shr, shr_lt}
-use Rattle.bits.specs.Bits.{bit, is_set}
+use Rattle.bits.specs.Bits.{is_set}
 
 -- bit t is the lowest one that is set
 pub record LowestSet (w x t : ℕ) : Type 0 where

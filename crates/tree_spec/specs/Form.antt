@@ -1,5 +1,5 @@
 -- A tree's form, for a table of n records whose first is constructor `first`.
-use Rattle.std.specs.Prelude.{ℕ, zero, suc, ◌+◌, ◌*◌, ◌^◌, min, Bool, true, false, cond, ◌&&◌, ◌||◌, not, List, leb, ltb, eqb, length}
+use Rattle.std.specs.Prelude.{ℕ, zero, suc, ◌+◌, ◌*◌, ◌^◌, min, Bool, cond, ◌&&◌, ◌||◌, not, List, leb, ltb, eqb, length}
 use Rattle.std.specs.Int.Bits.{bit_or}
 use Rattle.bits.specs.Bits.{is_set}
 use Rattle.format.specs.declared.Pattern.{Pattern}

@@ -5,9 +5,9 @@ use Rattle.format.specs.declared.Pattern.{Pattern}
 use Rattle.lists.proofs.Below.{all_none, all_more, all-stop}
 use native.Mathlib.Omega.{arith}
 use mathlib.Core.Path.{◌≡◌, sym, ◌∙◌}
-use mathlib.Core.Bool.{true, not, ◌&&◌, ◌||◌}
+use mathlib.Core.Bool.{not, ◌&&◌, ◌||◌}
 use lib.Dec.{eqb}
-use Prim.Native.Nat.{ℕ, ◌-◌}
+use Prim.Native.Nat.{ℕ}
 use Rattle.choosing.proofs.clears_all.Goals.{After-lies_inside-in-loop-j, Start}
 use Rattle.choosing.proofs.clears_all.Goals as goal
 

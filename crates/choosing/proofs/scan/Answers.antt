@@ -8,7 +8,7 @@ use Rattle.lists.specs.Below.{any_below}
 use native.Mathlib.Omega.{arith}
 use mathlib.Core.Path.{◌≡◌, sym, ◌∙◌}
 use mathlib.Core.Bool.{false}
-use Prim.Native.Nat.{ℕ, ◌-◌}
+use Prim.Native.Nat.{ℕ}
 use Rattle.choosing.proofs.scan.Goals.{After-skip-j, Start}
 use Rattle.choosing.proofs.scan.Goals as goal
 

@@ -1,6 +1,6 @@
 use Rattle.choosing.proofs.Keeping.{clears-inmost, inmost-clears}
 use mathlib.Core.Path.{sym, ◌∙◌}
-use mathlib.Core.Bool.{true, false, false≢true}
+use mathlib.Core.Bool.{false≢true}
 use Rattle.choosing.proofs.settle.Goals as goal
 
 pub clears_all-requires : goal.clears_all-requires

@@ -2,8 +2,6 @@ use Rattle.clash_check.proofs.Pairs.{quiet-more, pair_found, none_found}
 use Rattle.lists.proofs.Below.{all_none}
 use native.Mathlib.Omega.{arith}
 use mathlib.Core.Path.{◌≡◌}
-use mathlib.Core.Bool.{true}
-use Prim.Native.Nat.{◌-◌}
 use Rattle.clash_check.proofs.first_clash.Goals as goal
 
 pub loop-i-init : goal.loop-i-init

@@ -5,8 +5,8 @@ use Rattle.lists.proofs.Below.{any_none, any-more, any_at}
 use lib.Dec.{eqb}
 use native.Mathlib.Omega.{arith}
 use mathlib.Core.Path.{◌≡◌, sym, ◌∙◌}
-use mathlib.Core.Bool.{false, not, ◌&&◌}
-use Prim.Native.Nat.{ℕ, ◌-◌}
+use mathlib.Core.Bool.{not, ◌&&◌}
+use Prim.Native.Nat.{ℕ}
 use Rattle.clash_check.proofs.has_third.Invariants.{is}
 use Rattle.clash_check.proofs.has_third.Goals.{After-same, Start}
 use Rattle.clash_check.proofs.has_third.Goals as goal

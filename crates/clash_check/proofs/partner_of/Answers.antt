@@ -1,8 +1,6 @@
 use Rattle.clash_check.proofs.Pairs.{parted-first, parted-more, partner-stop, partner-done}
 use native.Mathlib.Omega.{arith}
 use mathlib.Core.Path.{◌≡◌, sym, ◌∙◌}
-use mathlib.Core.Bool.{true}
-use Prim.Native.Nat.{◌-◌}
 use Rattle.clash_check.proofs.partner_of.Goals as goal
 
 pub row-a-requires : goal.row-a-requires

@@ -1,4 +1,4 @@
-use Prim.Native.Nat.{◌-◌, ◌≤◌}
+use Prim.Native.Nat.{◌≤◌}
 use mathlib.Core.Path.{◌≡◌}
 use Rattle.instructions.specs.Settling.{owner_below}
 use Rattle.instructions.proofs.owner_of.Given as goal

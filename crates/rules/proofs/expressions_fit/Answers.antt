@@ -5,8 +5,6 @@ use Rattle.format.specs.Description.{description}
 use Rattle.lists.proofs.Below.{all_none, all_more, all-stop, all_of}
 use native.Mathlib.Omega.{arith}
 use mathlib.Core.Path.{◌≡◌, sym, ◌∙◌}
-use mathlib.Core.Bool.{true}
-use Prim.Native.Nat.{◌-◌}
 use Rattle.rules.proofs.expressions_fit.Goals.{After-expression_fits}
 use Rattle.rules.proofs.expressions_fit.Goals as goal
 

@@ -1,7 +1,7 @@
 use Rattle.rules.proofs.FieldOperands.{mark-none, mark-more, mark-near, mark-all}
 use Rattle.format.specs.Description.{description}
 use native.Mathlib.Omega.{arith}
-use Prim.Native.Nat.{◌-◌, ◌<◌, ◌≤◌}
+use Prim.Native.Nat.{◌<◌, ◌≤◌}
 use Rattle.rules.proofs.field_operands.Goals.{In-loop-o}
 use Rattle.rules.proofs.field_operands.Goals as goal
 

@@ -5,7 +5,6 @@ use Rattle.format.specs.Rules.{has_table}
 use lib.ListN.{length-set}
 use native.Mathlib.Omega.{arith}
 use mathlib.Core.Path.{◌≡◌, refl, ◌∙◌}
-use Prim.Native.Nat.{◌-◌}
 use Rattle.rules.proofs.mark_tables.Invariants.{hits}
 use Rattle.rules.proofs.mark_tables.Goals as goal
 

@@ -5,8 +5,6 @@ use Rattle.lists.proofs.Below.{all_none, all_more, all-stop}
 use borrow.Author.Rules.{rules}
 use native.Mathlib.Omega.{arith}
 use mathlib.Core.Path.{◌≡◌, sym, ◌∙◌}
-use mathlib.Core.Bool.{true}
-use Prim.Native.Nat.{◌-◌}
 use Rattle.rules.proofs.places_fit.Goals.{After-operand_fits-fits}
 use Rattle.rules.proofs.places_fit.Goals as goal
 

@@ -1,4 +1,3 @@
-use Prim.Native.Nat.{◌-◌}
 use mathlib.Core.Path.{refl}
 use Rattle.setting.proofs.Copying.{copy-none, copy_more, copy-all}
 use Rattle.setting.proofs.with_starts.Goals as goal

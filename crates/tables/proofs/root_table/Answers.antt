@@ -7,7 +7,6 @@ use Rattle.format.proofs.Formation.{obeyed}
 use Rattle.format.proofs.Lists.{constructors-length}
 use Rattle.format.proofs.Tables.{first-within}
 use Rattle.tables.proofs.Range.{root-end}
-use borrow.Author.Rules.{rules}
 use Rattle.tables.proofs.root_table.Goals.{After-first_from-first}
 use Rattle.tables.proofs.root_table.Goals as goal
 

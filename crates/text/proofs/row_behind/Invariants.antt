@@ -1,4 +1,3 @@
-use Prim.Native.Nat.{◌-◌}
 use mathlib.Core.Path.{◌≡◌}
 use Rattle.scratch_rows.specs.Places.{skip}
 use Rattle.text.proofs.row_behind.Given as goal

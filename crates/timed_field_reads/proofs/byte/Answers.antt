@@ -1,6 +1,5 @@
-use mathlib.Core.Path.{◌≡◌, ◌∙◌}
+use mathlib.Core.Path.{◌∙◌}
 use native.Mathlib.Omega.{arith}
-use Rattle.fields.specs.Value.{token_byte}
 use Rattle.timed_field_reads.proofs.ByBytes.{little_byte, big-byte}
 use Rattle.timed_field_reads.proofs.byte.Goals.{then-field-eq0, else-field-eq0}
 use Rattle.timed_field_reads.proofs.byte.Goals as goal

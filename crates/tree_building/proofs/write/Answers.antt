@@ -3,7 +3,6 @@ use Rattle.tree_counting.proofs.Counting.{test_fits, leaf-small}
 use Rattle.tree_building.proofs.Trees.{grow-test, grow-whole, grow-side, waits-inside, waits-small, progress_start, progress-valid, never-through}
 use native.Mathlib.Omega.{arith}
 use mathlib.Core.Path.{sym, ◌∙◌}
-use Prim.Native.Nat.{◌-◌}
 use Rattle.tree_building.proofs.write.Goals as goal
 
 pub loop-next-init : goal.loop-next-init

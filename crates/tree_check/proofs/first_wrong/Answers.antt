@@ -1,13 +1,10 @@
 use Rattle.tree_spec.specs.Nodes.{count_of}
 use Rattle.tree_check.proofs.Searching.{shown-is}
-use Prim.Native.Nat.{◌-◌}
-use mathlib.Core.Bool.{false}
 use mathlib.Core.Path.{◌≡◌, refl, sym, ◌∙◌}
 use native.Mathlib.Omega.{arith}
 use Rattle.tree_check.proofs.Searching.{clear_none, clear-more, none_more}
 use Rattle.tree_form.proofs.Trees.{tree_of, sized, good-counted}
 use Rattle.tree_theorems.proofs.Judging.{tree-says}
-use Rattle.tree_rule.specs.Rule.{shows_wrong}
 use Rattle.lists.proofs.Below.{any_none}
 use Rattle.tree_check.proofs.first_wrong.Goals as goal
 

@@ -1,6 +1,5 @@
 use Rattle.tree_check.proofs.Standing.{stand-first, stand-done, stand-test, stand-zero, stand-one}
 use native.Mathlib.Omega.{arith}
-use Prim.Native.Nat.{◌-◌}
 use Rattle.tree_check.proofs.path_to.Goals as goal
 
 pub loop-t-init : goal.loop-t-init

@@ -4,7 +4,6 @@ use Rattle.tree_counting.proofs.Paths.{seen-valid}
 use Rattle.tree_counting.specs.Seen.{begin}
 use native.Mathlib.Omega.{arith}
 use mathlib.Core.Path.{sym, ◌∙◌}
-use Prim.Native.Nat.{◌-◌}
 use Rattle.tree_counting.proofs.count.Goals as goal
 
 pub loop-n-init : goal.loop-n-init

@@ -1,9 +1,6 @@
 use Prim.Native.Nat.{ℕ, ◌<◌}
-use mathlib.Core.Bool.{true}
 use mathlib.Core.Path.{◌≡◌, sym, ◌∙◌}
 use native.Mathlib.Omega.{arith}
-use Rattle.tree_spec.specs.Nodes.{count_of, kind_at}
-use Rattle.tree_spec.specs.Form.{node_ok}
 use Rattle.tree_form.proofs.Nodes.{bit-fits}
 use Rattle.tree_form.proofs.Steps.{Half, walk-out, walk-fault, walk-leaf, zero-fault, zero-out, zero-next, walk-both}
 use Rattle.tree_form.proofs.+walk.Goals.{After-bit-bit, After-walk-zero}

@@ -2,7 +2,6 @@ use Rattle.tree_nodes.proofs.Gathered.{gathered-live, gathered-dead}
 use Rattle.tree_nodes.specs.Gathering.{gathered}
 use native.Mathlib.Omega.{arith}
 use mathlib.Core.Path.{◌≡◌, refl, sym, ◌∙◌}
-use Prim.Native.Nat.{◌-◌}
 use Rattle.tree_nodes.proofs.gather.Goals as goal
 
 pub loop-next-init : goal.loop-next-init

@@ -1,7 +1,6 @@
 use Rattle.lists.proofs.Below.{all_none, all-next}
 use native.Mathlib.Omega.{arith}
 use mathlib.Core.Path.{◌≡◌, sym}
-use Prim.Native.Nat.{◌-◌}
 use Rattle.validation.proofs.all_letters.Invariants.{ok}
 use Rattle.validation.proofs.all_letters.Goals as goal
 

@@ -2,7 +2,6 @@ use Rattle.format.proofs.Lists.{pieces-length}
 use Rattle.lists.proofs.Below.{all_none, all_keep}
 use native.Mathlib.Omega.{arith}
 use mathlib.Core.Path.{◌≡◌, sym, ◌∙◌}
-use Prim.Native.Nat.{◌-◌}
 use Rattle.validation.proofs.all_pieces.Invariants.{ok}
 use Rattle.validation.proofs.all_pieces.Goals as goal
 

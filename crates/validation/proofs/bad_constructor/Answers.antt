@@ -1,7 +1,5 @@
-use Prim.Native.Nat.{◌-◌}
 use mathlib.Core.Path.{sym, ap, ◌∙◌}
 use Rattle.format.specs.Description.{constructors_of}
-use Rattle.format.specs.Rules.{constructor_ok}
 use Rattle.format.specs.Check.{bad_constructor}
 use Rattle.format.proofs.Search.{search-start, search-here, search-step, search-stop, search-done}
 use Rattle.validation.proofs.bad_constructor.Goals as goal

@@ -1,7 +1,5 @@
-use Prim.Native.Nat.{◌-◌}
 use mathlib.Core.Path.{sym, ◌∙◌}
 use Rattle.format.specs.Description.{fields_of}
-use Rattle.format.specs.Rules.{field_ok}
 use Rattle.format.specs.Check.{bad_field}
 use Rattle.format.proofs.Lists.{names-length}
 use Rattle.format.proofs.Search.{search-start, search-step, search-stop, search-done}

@@ -1,7 +1,5 @@
-use Prim.Native.Nat.{◌-◌}
 use mathlib.Core.Path.{sym, ◌∙◌}
 use Rattle.format.specs.Description.{names_of}
-use Rattle.format.specs.Rules.{name_ok}
 use Rattle.format.specs.Check.{bad_name}
 use Rattle.format.proofs.Lists.{text-length}
 use Rattle.format.proofs.Search.{search-start, search-step, search-stop, search-done}

@@ -1,7 +1,5 @@
-use Prim.Native.Nat.{◌-◌}
 use mathlib.Core.Path.{sym, ◌∙◌}
 use Rattle.format.specs.Description.{operands_of}
-use Rattle.format.specs.Rules.{operand_ok}
 use Rattle.format.specs.Check.{bad_operand}
 use Rattle.format.proofs.Lists.{expressions-length}
 use Rattle.format.proofs.Search.{search-start, search-step, search-stop, search-done}

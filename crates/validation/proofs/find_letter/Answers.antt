@@ -1,7 +1,5 @@
-use Prim.Native.Nat.{◌-◌}
 use mathlib.Core.Path.{sym, ◌∙◌}
 use Rattle.format.specs.Description.{text_of}
-use Rattle.format.specs.Rules.{letter_ok}
 use Rattle.format.specs.Check.{bad_letter}
 use Rattle.format.proofs.Search.{search-start, search-step, search-stop, search-done}
 use Rattle.validation.proofs.find_letter.Goals as goal
