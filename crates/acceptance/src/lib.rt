@@ -2,9 +2,9 @@
 #![tactic(auto)]
 
 ghost use Rattle.std.specs.Prelude.{◌≡◌};
-ghost use Rattle.acceptance.specs.Acceptance.{acceptance_of, rejection_number, first_value, second_value, third_value};
+ghost use Rattle.acceptance.specs.Acceptance.{acceptance_of, rejection_of, rejection_number, first_value, second_value, third_value};
 
-use format::{Checked, Layout};
+use format::{Fault, Layout};
 
 // Why bytes are no such description: the first fault's section and record.
 #[derive(Clone, Copy)]
@@ -13,46 +13,47 @@ pub struct Rejection {
     pub number: usize,
 }
 
-#[derive(Clone, Copy)]
-pub enum Acceptance {
-    Accepted(Layout),
-    Rejected(Rejection),
-}
+impl From<Fault> for Rejection {
+    ghost from_gives = { λ fault rejection. rejection ≡ rejection_of fault };
 
-pub fn accept(desc: &[u8]) -> Acceptance
-    ensures { result ≡ acceptance_of desc.now }
-{
-    let checked = validation::check(desc);
-    match checked {
-        Checked::Good(layout) => Acceptance::Accepted(layout),
-        Checked::Fault { section, record } => Acceptance::Rejected(Rejection {
-            section,
-            number: record,
-        }),
+    fn from(fault: Fault) -> Rejection {
+        Rejection {
+            section: fault.section,
+            number: fault.number,
+        }
     }
 }
 
-// A rejection's number and values, as every entry point reports them.
-pub fn number_of(rejection: Rejection) -> u8
-    ensures { result ≡ rejection_number rejection }
+pub fn accept(desc: &[u8]) -> Result<Layout, Rejection>
+    ensures { result ≡ acceptance_of desc.now }
 {
-    1
+    let layout = validation::check(desc)?;
+    Ok(layout)
 }
 
-pub fn first_value(rejection: Rejection) -> usize
-    ensures { result ≡ first_value rejection }
-{
-    rejection.section
-}
+// The answer's number and values, as every entry point reports a rejection.
+impl Rejection {
+    pub fn answer_number(self) -> u8
+        ensures { result ≡ rejection_number self }
+    {
+        1
+    }
 
-pub fn second_value(rejection: Rejection) -> usize
-    ensures { result ≡ second_value rejection }
-{
-    rejection.number
-}
+    pub fn first_value(self) -> usize
+        ensures { result ≡ first_value self }
+    {
+        self.section
+    }
 
-pub fn third_value(rejection: Rejection) -> usize
-    ensures { result ≡ third_value rejection }
-{
-    0
+    pub fn second_value(self) -> usize
+        ensures { result ≡ second_value self }
+    {
+        self.number
+    }
+
+    pub fn third_value(self) -> usize
+        ensures { result ≡ third_value self }
+    {
+        0
+    }
 }

@@ -10,7 +10,7 @@ pub const NO_MULTIPLE: u8 = 14;
 pub fn is_alignment(n: u32) -> bool
     ensures { result ≡ is_alignment n }
 {
-    (n == 1) | (n == 2) | (n == 4) | (n == 8)
+    matches!(n, 1 | 2 | 4 | 8)
 }
 
 // An alignment is a power of two, so that a mask gives the remainder.
@@ -27,8 +27,5 @@ pub fn gap_length(n: usize, x: usize, left: usize) -> usize
     ensures { result ≡ gap_length n x left }
 {
     let reach = n - (x & (n - 1));
-    if reach < left {
-        return reach;
-    }
-    left
+    reach.min(left)
 }

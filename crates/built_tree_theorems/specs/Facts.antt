@@ -1,18 +1,15 @@
 -- A table of accepted bytes that has no clash, and its tree.
-use Rattle.std.specs.Prelude.{ℕ, ◌+◌, ◌-◌, ◌*◌, ◌<◌, ◌≤◌, true, List, ◌⊎◌, ◌≡◌, take, drop}
+use Rattle.std.specs.Prelude.{ℕ, ◌+◌, ◌-◌, ◌*◌, ◌<◌, ◌≤◌, true, List, ◌⊎◌, ◌≡◌, take, drop, None, Ok}
 use Rattle.format.specs.Description.{description}
 use Rattle.format.specs.Rules.{has_table}
 use Rattle.format.specs.Tables.{table_first, table_end}
 use Rattle.format.specs.declared.Layout.{Layout}
 use Rattle.format.specs.declared.Pattern.{Pattern}
 use Rattle.acceptance.specs.Acceptance.{acceptance_of}
-use Rattle.acceptance.specs.declared.Acceptance.TheVariants.{Accepted}
 use Rattle.choosing_spec.specs.Clashing.{clash_of}
 use Rattle.choosing_spec.specs.Table.{pattern_from}
-use Rattle.choosing_spec.specs.declared.Clash.TheVariants.{Clear}
 use Rattle.tree_spec.specs.Form.{form_of}
 use Rattle.tree_spec.specs.Nodes.{most_nodes}
-use Rattle.tree_spec.specs.declared.Form.TheVariants.{Good}
 use Rattle.tree_building_spec.specs.Tree.{Tree, tree_of, size_of, tree_bytes}
 
 -- a table's first constructor, its patterns and how many they are
@@ -31,9 +28,9 @@ tree_for b l t = tree_of (first_of b l t) (patterns_for b l t) (records_for b l 
 
 -- bytes b are a description, with this layout, that has table t, and the table has no clash
 pub record ClearTable (b : List ℕ) (t : ℕ) (l : Layout) : Type 0 where
-  pub accepted : acceptance_of b ≡ Accepted l
+  pub accepted : acceptance_of b ≡ Ok l
   pub has : has_table (description b l) t ≡ true
-  pub clear : clash_of (patterns_for b l t) (records_for b l t) ≡ Clear
+  pub clear : clash_of (patterns_for b l t) (records_for b l t) ≡ None
 
 -- "a tree over 4,095 nodes or larger than the lent buffer"
 abbrev pub Large : Tree → ℕ → Type 0
@@ -47,4 +44,4 @@ pub record WroteTree (b : List ℕ) (t : ℕ) (old new : List ℕ) (k : ℕ) : T
   pub size : k ≡ 2 + 4 * size_of (tree_for b layout t)
   pub tree : take k new ≡ tree_bytes (tree_for b layout t)
   pub behind : drop k new ≡ drop k old
-  pub formed : form_of (first_of b layout t) (records_for b layout t) (take k new) ≡ Good
+  pub formed : form_of (first_of b layout t) (records_for b layout t) (take k new) ≡ Ok tt

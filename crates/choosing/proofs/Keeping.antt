@@ -8,15 +8,15 @@ use native.Mathlib.Omega.{arith}
 use borrow.Author.Tests.{eq-eqb, ne_eqb, not-false}
 use lib.Bits.{bit_and, bit_xor, and_mask}
 use lib.Dec.{eqb}
+use Rattle.std.specs.Prelude.{Option, Some, None}
 use Rattle.lists.specs.Below.{all_below, any_below}
-use Rattle.lists.proofs.Below.{any_none, any-more, any_at, all-at, all_of}
-use Rattle.lists.proofs.Bools.{or_no, or_yes}
+use Rattle.lists.proofs.Below.{any-more, any_at, all-at, all_of}
 use Rattle.format.specs.declared.Pattern.{Pattern}
 use Rattle.patterns.specs.Relations.{inside}
 use Rattle.patterns.specs.Words.{words_agree, words_whole}
 use Rattle.patterns.specs.declared.Input.{Input}
 use Rattle.choosing_theorems.proofs.Inside.{inside-trans}
-use Rattle.choosing.specs.Scan.{with_match, clears, word_short, word_match, Inmost, ScanState, Skips}
+use Rattle.choosing.specs.Scan.{with_match, clears, word_short, word_match, Inmost, BestOf, ScanState, Skips}
 use Rattle.choosing.specs.declared.Best.{Best}
 
 pub neither : (a b : Bool) → (a || b) ≡ false → (a ≡ false) × (b ≡ false)
@@ -28,24 +28,20 @@ deny : (a : Bool) → (a ≡ true → ⊥) → a ≡ false
 deny true f = absurd (f refl)
 deny false f = refl
 
-module _ (at : ℕ → Pattern) (hit : ℕ → Bool) (n : ℕ) where
-  pub kept-none : ScanState at hit n 0 (record { found = false; unsure = false; at = 0 })
-  kept-none =
-      record {
-        some = sym (any_none hit);
-        best = λ e. absurd (false≢true e);
-        sure = λ e _. absurd (false≢true e);
-        held = λ t h. absurd (omega arith);
-      }
+-- none so far, and not this one
+pub none_more : (f : ℕ → Bool) (j : ℕ) → any_below j f ≡ false → f j ≡ false → any_below (j + 1) f ≡ false
+none_more f j p q = rw (any-more f j, p, q)
 
+module _ (at : ℕ → Pattern) (hit : ℕ → Bool) (n : ℕ) where
   -- a record that does not match changes nothing
-  pub kept-skip : (j : ℕ) (b : Best) → hit j ≡ false → ScanState at hit n j b → ScanState at hit n (j + 1) b
-  kept-skip j b e k =
+  pub kept-skip : (j : ℕ) (b : Option Best) → hit j ≡ false → ScanState at hit n j b → ScanState at hit n (j + 1) b
+  kept-skip j None e k = none_more hit j k e
+  kept-skip j (Some b) e k =
       record {
-        some = rw (any-more hit j, e, or_no) k.some;
-        best = λ f. (omega (arith, (k.best f).0), (k.best f).1);
-        sure = λ f d.
-            let s = k.sure f d in
+        within = omega (arith, k.within);
+        hits = k.hits;
+        sure = λ d.
+            let s = k.sure d in
             record {
               within = omega (arith, s.within);
               hits = s.hits;
@@ -61,115 +57,111 @@ module _ (at : ℕ → Pattern) (hit : ℕ → Bool) (n : ℕ) where
           go (yes q) = absurd (false≢true (sym (rw (sym q) at e) ∙ y))
           go (no q) = omega arith
 
-  module _ (j : ℕ) (b : Best) (hits : hit j ≡ true) (k : ScanState at hit n j b) (l : j < n) where
+  module _ (j : ℕ) (hits : hit j ≡ true) (l : j < n) where
     -- the record that is taken up, or kept, is the inner one of the two
-    some_more : true ≡ any_below (j + 1) hit
-    some_more = rw (any-more hit j, hits, or_yes)
-
-    pub kept-first : b.found ≡ false → ScanState at hit n (j + 1) (record { found = true; unsure = false; at = j })
+    kept-first : any_below j hit ≡ false → BestOf at hit n (j + 1) (record { unsure = false; at = j })
     kept-first f =
         record {
-          some = some_more;
-          best = λ _. (omega arith, hits);
-          sure = λ _ _. record { within = omega arith; hits = hits; above = λ i h x y. absurd (none i (omega (arith, x)) y) };
-          held = λ t h m. (refl, go t h m (ℕ_discrete t j));
+          within = omega arith;
+          hits = hits;
+          sure = λ _. record { within = omega arith; hits = hits; above = λ i h x y. absurd (none i (omega (arith, x)) y) };
+          held = λ t h m. go t h m (ℕ_discrete t j);
         }
       where
         none : (i : ℕ) → i < j → hit i ≡ true → ⊥
-        none i h y = false≢true (sym f ∙ (k.some ∙ any_at hit j i h y))
+        none i h y = false≢true (sym f ∙ any_at hit j i h y)
 
         go : (t : ℕ) → t < j + 1 → Inmost at hit n t → Dec (t ≡ j) → j ≡ t
         go t h m (yes q) = sym q
         go t h m (no q) = absurd (none t (omega arith) m.hits)
 
-    pub kept-inner : b.found ≡ true → inside (at j) (at b.at) ≡ true
-        → ScanState at hit n (j + 1) (record { found = true; unsure = b.unsure || inside (at b.at) (at j); at = j })
-    kept-inner f e =
-        record {
-          some = some_more;
-          best = λ _. (omega arith, hits);
-          sure = λ _ d.
-              let r = neither b.unsure (inside (at b.at) (at j)) d in
-              record {
-                within = omega arith;
-                hits = hits;
-                above = λ i h x y. above (k.sure f r.0) r.1 i (omega (arith, x)) y (ℕ_discrete i b.at);
-              };
-          held = λ t h m. (refl, go t h m (ℕ_discrete t j));
-        }
-      where
-        above : Inmost at hit j b.at → inside (at b.at) (at j) ≡ false → (i : ℕ) → i < j → hit i ≡ true → Dec (i ≡ b.at)
-            → (inside (at j) (at i) ≡ true) × (inside (at i) (at j) ≡ false)
-        above s o i h y (yes q) = rw q (e, o)
-        above s o i h y (no q) =
-            let r = s.above i h q y in (
-              inside-trans (at j) (at b.at) (at i) e r.0,
-              deny (inside (at i) (at j)) (λ z. false≢true (sym r.1 ∙ inside-trans (at i) (at j) (at b.at) z e)),
-            )
+    module _ (b : Best) (k : BestOf at hit n j b) where
+      kept-inner : inside (at j) (at b.at) ≡ true → BestOf at hit n (j + 1) (record { unsure = b.unsure || inside (at b.at) (at j); at = j })
+      kept-inner e =
+          record {
+            within = omega arith;
+            hits = hits;
+            sure = λ d.
+                let r = neither b.unsure (inside (at b.at) (at j)) d in
+                record {
+                  within = omega arith;
+                  hits = hits;
+                  above = λ i h x y. above (k.sure r.0) r.1 i (omega (arith, x)) y (ℕ_discrete i b.at);
+                };
+            held = λ t h m. go t h m (ℕ_discrete t j);
+          }
+        where
+          above : Inmost at hit j b.at → inside (at b.at) (at j) ≡ false → (i : ℕ) → i < j → hit i ≡ true → Dec (i ≡ b.at)
+              → (inside (at j) (at i) ≡ true) × (inside (at i) (at j) ≡ false)
+          above s o i h y (yes q) = rw q (e, o)
+          above s o i h y (no q) =
+              let r = s.above i h q y in (
+                inside-trans (at j) (at b.at) (at i) e r.0,
+                deny (inside (at i) (at j)) (λ z. false≢true (sym r.1 ∙ inside-trans (at i) (at j) (at b.at) z e)),
+              )
 
-        go : (t : ℕ) → t < j + 1 → Inmost at hit n t → Dec (t ≡ j) → j ≡ t
-        go t h m (yes q) = sym q
-        go t h m (no q) =
-            let r = (k.held t (omega arith) m).1 in
-            absurd (false≢true (sym (m.above j l (λ z. q (sym z)) hits).1 ∙ rw r at e))
+          go : (t : ℕ) → t < j + 1 → Inmost at hit n t → Dec (t ≡ j) → j ≡ t
+          go t h m (yes q) = sym q
+          go t h m (no q) =
+              let r = k.held t (omega arith) m in
+              absurd (false≢true (sym (m.above j l (λ z. q (sym z)) hits).1 ∙ rw r at e))
 
-    pub kept-outer : b.found ≡ true → inside (at j) (at b.at) ≡ false
-        → ScanState at hit n (j + 1) (record { found = true; unsure = b.unsure || not (inside (at b.at) (at j)); at = b.at })
-    kept-outer f e =
-        record {
-          some = some_more;
-          best = λ _. (omega (arith, (k.best f).0), (k.best f).1);
-          sure = λ _ d.
-              let r = neither b.unsure (not (inside (at b.at) (at j))) d in
-              let s = k.sure f r.0 in
-              record {
-                within = omega (arith, s.within);
-                hits = s.hits;
-                above = λ i h x y. above s (not-false (inside (at b.at) (at j)) r.1) i h x y (ℕ_discrete i j);
-              };
-          held = λ t h m. (refl, go t h m (ℕ_discrete t j));
-        }
-      where
-        above : Inmost at hit j b.at → inside (at b.at) (at j) ≡ true → (i : ℕ) → i < j + 1 → (i ≡ b.at → ⊥) → hit i ≡ true
-            → Dec (i ≡ j) → (inside (at b.at) (at i) ≡ true) × (inside (at i) (at b.at) ≡ false)
-        above s o i h x y (yes q) = rw q (o, e)
-        above s o i h x y (no q) = s.above i (omega arith) x y
+      kept-outer : inside (at j) (at b.at) ≡ false
+          → BestOf at hit n (j + 1) (record { unsure = b.unsure || not (inside (at b.at) (at j)); at = b.at })
+      kept-outer e =
+          record {
+            within = omega (arith, k.within);
+            hits = k.hits;
+            sure = λ d.
+                let r = neither b.unsure (not (inside (at b.at) (at j))) d in
+                let s = k.sure r.0 in
+                record {
+                  within = omega (arith, s.within);
+                  hits = s.hits;
+                  above = λ i h x y. above s (not-false (inside (at b.at) (at j)) r.1) i h x y (ℕ_discrete i j);
+                };
+            held = λ t h m. go t h m (ℕ_discrete t j);
+          }
+        where
+          above : Inmost at hit j b.at → inside (at b.at) (at j) ≡ true → (i : ℕ) → i < j + 1 → (i ≡ b.at → ⊥) → hit i ≡ true
+              → Dec (i ≡ j) → (inside (at b.at) (at i) ≡ true) × (inside (at i) (at b.at) ≡ false)
+          above s o i h x y (yes q) = rw q (o, e)
+          above s o i h x y (no q) = s.above i (omega arith) x y
 
-        go : (t : ℕ) → t < j + 1 → Inmost at hit n t → Dec (t ≡ j) → b.at ≡ t
-        go t h m (yes q) =
-            let p = k.best f in
-            let r = m.above b.at (omega (arith, p.0)) (λ z. omega (arith, p.0)) p.1 in
-            absurd (false≢true (sym e ∙ rw q at r.0))
-        go t h m (no q) = (k.held t (omega arith) m).1
+          go : (t : ℕ) → t < j + 1 → Inmost at hit n t → Dec (t ≡ j) → b.at ≡ t
+          go t h m (yes q) =
+              let r = m.above b.at (omega (arith, k.within)) (λ z. omega (arith, k.within)) k.hits in
+              absurd (false≢true (sym e ∙ rw q at r.0))
+          go t h m (no q) = k.held t (omega arith) m
 
-    pub kept-with_match : ScanState at hit n (j + 1) (with_match at b j)
+    pub kept-with_match : (b : Option Best) → ScanState at hit n j b → BestOf at hit n (j + 1) (with_match at b j)
     unfolding with_match
-    kept-with_match = go b.found refl (inside (at j) (at b.at)) refl
+    kept-with_match None k = kept-first k
+    kept-with_match (Some b) k = go (inside (at j) (at b.at)) refl
       where
-        go : (f : Bool) → b.found ≡ f → (i : Bool) → inside (at j) (at b.at) ≡ i
-            → ScanState at hit n (j + 1)
-            (cond f
-            (cond i (record { found = true; unsure = b.unsure || inside (at b.at) (at j); at = j })
-            (record { found = true; unsure = b.unsure || not (inside (at b.at) (at j)); at = b.at }))
-            (record { found = true; unsure = false; at = j }))
-        go true f true i = kept-inner f i
-        go true f false i = kept-outer f i
-        go false f i e = kept-first f
+        go : (i : Bool) → inside (at j) (at b.at) ≡ i
+            → BestOf at hit n (j + 1)
+            (cond i (record { unsure = b.unsure || inside (at b.at) (at j); at = j })
+            (record { unsure = b.unsure || not (inside (at b.at) (at j)); at = b.at }))
+        go true i = kept-inner b k i
+        go false i = kept-outer b k i
 
--- none so far, and not this one
-pub none_more : (f : ℕ → Bool) (j : ℕ) → any_below j f ≡ false → f j ≡ false → any_below (j + 1) f ≡ false
-none_more f j p q = rw (any-more f j, p, q)
+-- `with_match` where none matched so far ..
+pub with_match-first : (at : ℕ → Pattern) (o : Option Best) (j : ℕ) → ((b : Best) → o ≡ Some b → ⊥) → ◌≡◌ {A = Best} (record { unsure = false; at = j }) (with_match at o j)
+unfolding with_match
+with_match-first at None j f = refl
+with_match-first at (Some b) j f = absurd (f b refl)
 
--- `with_match` by the patterns that were read
+-- .. and by the patterns that were read
 module _ (at : ℕ → Pattern) (b : Best) (j : ℕ) (p q : Pattern) (o : Bool)
-    (f : b.found ≡ true) (e : p ≡ at j) (g : q ≡ at b.at) (x : o ≡ inside q p) where
-  pub with_match-inner : inside p q ≡ true → ◌≡◌ {A = Best} (record { found = true; unsure = b.unsure || o; at = j }) (with_match at b j)
+    (e : p ≡ at j) (g : q ≡ at b.at) (x : o ≡ inside q p) where
+  pub with_match-inner : inside p q ≡ true → ◌≡◌ {A = Best} (record { unsure = b.unsure || o; at = j }) (with_match at (Some b) j)
   unfolding with_match
-  with_match-inner i = rw (f, ← e, ← g, i, x)
+  with_match-inner i = rw (← e, ← g, i, x)
 
-  pub with_match-outer : inside p q ≡ false → ◌≡◌ {A = Best} (record { found = true; unsure = b.unsure || not o; at = b.at }) (with_match at b j)
+  pub with_match-outer : inside p q ≡ false → ◌≡◌ {A = Best} (record { unsure = b.unsure || not o; at = b.at }) (with_match at (Some b) j)
   unfolding with_match
-  with_match-outer i = rw (f, ← e, ← g, i, x)
+  with_match-outer i = rw (← e, ← g, i, x)
 
 -- record j by the pattern that was read
 module _ (at : ℕ → Pattern) (i : Input) (j : ℕ) (p : Pattern) (e : p ≡ at j) where
@@ -253,7 +245,7 @@ module _ (at : ℕ → Pattern) (i : Input) (n from : ℕ) where
       go x l h (no b) = q.none x (omega (arith, b)) h
 
   -- change nothing
-  module _ (r : ℕ) (b : Best) (k : Skips at i n from r) where
+  module _ (r : ℕ) (b : Option Best) (k : Skips at i n from r) where
     skipped-by : (m : ℕ) → from + m ≤ r → any_below from (word_short at i) ≡ false → ScanState at (word_match at i) n from b
         → (any_below (from + m) (word_short at i) ≡ false) × ScanState at (word_match at i) n (from + m) b
     skipped-by zero h f s =

@@ -5,6 +5,7 @@ use mathlib.Core.List.{List}
 use mathlib.Core.Path.{◌≡◌, sym, ap, ◌∙◌}
 use native.Mathlib.Decide.{ℕ_discrete}
 use native.Mathlib.Omega.{arith}
+use Rattle.std.specs.Prelude.{Ok, Err}
 use Rattle.lists.proofs.Below.{any_found}
 use Rattle.format.specs.Description.{Description}
 use Rattle.format.specs.Tables.{table_first, table_end}
@@ -14,7 +15,7 @@ use Rattle.format.proofs.Tables.{in_table, of-table, end-within}
 use Rattle.patterns.specs.Matching.{matches}
 use Rattle.patterns.specs.Relations.{inside}
 use Rattle.choosing_spec.specs.Choosing.{matching, innermost}
-use Rattle.choosing_spec.specs.declared.Choice.TheVariants.{Short, NoMatch, Taken}
+use Rattle.choosing_spec.specs.declared.NotChosen.TheVariants.{Short, NoMatch}
 use Rattle.choosing_theorems.specs.Taken.{Strict}
 use Rattle.choosing_theorems.proofs.Taken.{Below, inner, inner-matches, inner_below, lone-strict, Answer, cut, none, one, torn, answer, choose-taken, taken-strict, no-match}
 use Rattle.choosing_spec.specs.Table.{pattern_from, choose_in}
@@ -64,7 +65,7 @@ module _ (d : Description) (o : RulesHold d) (t : ℕ) (s : List ℕ) (c : ℕ) 
       rw (← p.is) (r.above p.j p.within (λ e. n (sym p.is ∙ ap (λ x. first + x) e)) p.hits)
 
   -- "Taken is the matching constructor inside all other matching ones"
-  pub taken_in : (j : ℕ) → choose_in d t s c ≡ Taken j → TakenIn d t s c (first + j)
+  pub taken_in : (j : ℕ) → choose_in d t s c ≡ Ok j → TakenIn d t s c (first + j)
   taken_in j e =
       record {
         is = record { matching = matched; inmost = λ i m n. (over j strict i m n).0 };
@@ -83,13 +84,13 @@ module _ (d : Description) (o : RulesHold d) (t : ℕ) (s : List ℕ) (c : ℕ) 
           absurd (false≢true (sym (over j strict i m.matching q).1 ∙ m.inmost (first + j) matched (λ x. q (sym x))))
 
   -- "No match, if none matches."
-  pub none_in : choose_in d t s c ≡ NoMatch → NoneIn d t s c
+  pub none_in : choose_in d t s c ≡ Err NoMatch → NoneIn d t s c
   none_in e i m =
       let p : Placed i = place i m in
       false≢true (sym (no-match at count s c e p.j p.within).0 ∙ p.hits)
 
   -- unless the table is short, the one that lies inside all others is taken ..
-  pub in_taken : (j : ℕ) → TakenIn d t s c (first + j) → (choose_in d t s c ≡ Short → ⊥) → choose_in d t s c ≡ Taken j
+  pub in_taken : (j : ℕ) → TakenIn d t s c (first + j) → (choose_in d t s c ≡ Err Short → ⊥) → choose_in d t s c ≡ Ok j
   unfolding pattern_from
   in_taken j r f = go (answer at count s c)
     where
@@ -116,17 +117,17 @@ module _ (d : Description) (o : RulesHold d) (t : ℕ) (s : List ℕ) (c : ℕ) 
           lone-strict at count s c j (rw same-j at place_of.within) (inner at count s c j (rw same-j at place_of.hits) below)
           (λ i h e. let q : first + i ≡ first + j = r.only (first + i) (inmost i h e) in omega arith)
 
-      go : Answer at count s c (choose_in d t s c) → choose_in d t s c ≡ Taken j
+      go : Answer at count s c (choose_in d t s c) → choose_in d t s c ≡ Ok j
       go (cut p q) = absurd (f q)
       go (none p m q) = choose-taken at count s c p j strict
       go (one p u w q) = choose-taken at count s c p j strict
       go (torn p m w q) = choose-taken at count s c p j strict
 
   -- .. and where none matches that is said
-  pub in-none : NoneIn d t s c → (choose_in d t s c ≡ Short → ⊥) → choose_in d t s c ≡ NoMatch
+  pub in-none : NoneIn d t s c → (choose_in d t s c ≡ Err Short → ⊥) → choose_in d t s c ≡ Err NoMatch
   in-none r f = go (answer at count s c)
     where
-      go : Answer at count s c (choose_in d t s c) → choose_in d t s c ≡ NoMatch
+      go : Answer at count s c (choose_in d t s c) → choose_in d t s c ≡ Err NoMatch
       go (cut p q) = absurd (f q)
       go (none p m q) = q
       go (one p u w q) = absurd (r (first + u) (back u w.within w.matches))

@@ -7,6 +7,7 @@ use native.Mathlib.Decide.{dec_lt}
 use native.Mathlib.Omega.{arith}
 use lib.Dec.{lit<}
 use lib.ListN.{get_or, get_or-eq_default}
+use Rattle.std.specs.Prelude.{Result, Ok, Err}
 use Rattle.lists.specs.Below.{any_below}
 use Rattle.lists.proofs.Below.{any_found}
 use Rattle.format.specs.Description.{description, records_of, constructors_of, no_constructor}
@@ -22,8 +23,8 @@ use Rattle.patterns.specs.declared.Input.{Input}
 use Rattle.patterns.proofs.Bytes.{Holds, long-small, quad-small, input-holds}
 use Rattle.patterns.proofs.Words.{agrees-is, whole_is, matches-is}
 use Rattle.choosing_spec.specs.Choosing.{choose, short, matching}
-use Rattle.choosing_spec.specs.declared.Choice.{Choice}
-use Rattle.choosing_spec.specs.declared.Choice.TheVariants.{Short, NoMatch, Taken, Ambiguous}
+use Rattle.choosing_spec.specs.declared.NotChosen.{NotChosen}
+use Rattle.choosing_spec.specs.declared.NotChosen.TheVariants.{Short, NoMatch, Ambiguous}
 use Rattle.choosing_theorems.specs.Taken.{Strict}
 use Rattle.choosing_theorems.proofs.None.{none-at}
 use Rattle.choosing_theorems.proofs.Taken.{choose-short, choose-taken, choose-ambiguous, no-match-back}
@@ -64,7 +65,7 @@ unfolding pattern_in pattern_from constructors_of
 patterns-are b l first = refl
 
 -- so choosing by the section is choosing in the description
-pub described : (b : List ℕ) (l : Layout) (first n : ℕ) (s : List ℕ) (c : ℕ) (q : Choice) → choose (pattern_in b l.constructors first) n s c ≡ q
+pub described : (b : List ℕ) (l : Layout) (first n : ℕ) (s : List ℕ) (c : ℕ) (q : Result ℕ NotChosen) → choose (pattern_in b l.constructors first) n s c ≡ q
     → choose (pattern_from (description b l) first) n s c ≡ q
 described b l first n s c q e = rw (← patterns-are b l first) e
 
@@ -105,17 +106,17 @@ module _ (at : ℕ → Pattern) (n : ℕ) (s : List ℕ) (c : ℕ) (i : Input) (
         above = λ j h x y. m.above j h x (sym (match_is j) ∙ y);
       }
 
-  pub cut_short : any_below n (word_short at i) ≡ true → Short ≡ choose at n s c
+  pub cut_short : any_below n (word_short at i) ≡ true → Err Short ≡ choose at n s c
   cut_short e =
       let r = any_found (word_short at i) n e in
       sym (choose-short at n s c r.0 r.1 (sym (short-is r.0) ∙ r.2))
 
-  pub settled : any_below n (word_short at i) ≡ false → (r : Choice) → ChoiceHolds at (word_match at i) n r → r ≡ choose at n s c
-  settled e Short m = absurd m
-  settled e NoMatch m =
+  pub settled : any_below n (word_short at i) ≡ false → (r : Result ℕ NotChosen) → ChoiceHolds at (word_match at i) n r → r ≡ choose at n s c
+  settled e (Err Short) m = absurd m
+  settled e (Err NoMatch) m =
       sym (no-match-back at n s c (λ j h. (sym (match_is j) ∙ none-at (word_match at i) n m j h, sym (short-is j) ∙ none-at (word_short at i) n e j h)))
-  settled e (Taken t) m = sym (choose-taken at n s c (ap (any_below n) (fun_ext (λ j. sym (short-is j))) ∙ e) t (strict t m))
-  settled e Ambiguous m =
+  settled e (Ok t) m = sym (choose-taken at n s c (ap (any_below n) (fun_ext (λ j. sym (short-is j))) ∙ e) t (strict t m))
+  settled e (Err Ambiguous) m =
       sym
       (choose-ambiguous at n s c (ap (any_below n) (fun_ext (λ j. sym (short-is j))) ∙ e) (ap (any_below n) (fun_ext (λ j. sym (match_is j))) ∙ m.0)
       (λ t x. m.1 t (inmost t x)))

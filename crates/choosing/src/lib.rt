@@ -1,7 +1,8 @@
 // Choosing in a table of a well-formed description: one pass over the table's patterns, on machine words.
 #![tactic(auto)]
 
-ghost use Rattle.std.specs.Prelude.{true, false, ◌≡◌, ◌+◌, ◌-◌, ◌<◌, ◌≤◌, ◌^◌};
+ghost use Rattle.std.specs.Prelude.{false, ◌≡◌, ◌+◌, ◌-◌, ◌<◌, ◌≤◌, ◌^◌};
+ghost use Rattle.std.specs.Option.{ForSome};
 ghost use Rattle.format.specs.Layout.{SectionsInBounds, inside};
 ghost use Rattle.format.specs.Numbers.{constructor_bytes};
 ghost use Rattle.format.specs.Description.{description};
@@ -11,23 +12,16 @@ ghost use Rattle.choosing_spec.specs.Table.{pattern_from};
 ghost use Rattle.choosing.specs.Patterns.{section_as, pattern_in, patterns_in};
 ghost use Rattle.choosing.specs.Scan.{with_match, clears_all, Skips, ScanResult, Passed, ChoiceOf};
 
-use choosing_spec::Choice;
+use choosing_spec::NotChosen;
 use format::{Layout, Pattern, Section};
 use patterns::Input;
 use tables::Table;
 
-// What a pass has found so far: whether a record matches, the one that lies inside the others, and whether that is in doubt.
+// Of the records that match so far in a pass the one that lies inside the others, and whether that is in doubt.
 #[derive(Clone, Copy)]
 pub struct Best {
-    pub found: bool,
     pub unsure: bool,
     pub at: usize,
-}
-
-#[derive(Clone, Copy)]
-pub enum Scanned {
-    CutOff,
-    Complete(Best),
 }
 
 pub fn row(desc: &[u8], layout: Layout, first: usize, j: usize) -> Pattern
@@ -55,35 +49,32 @@ fn with_match(
     desc: &[u8],
     constructors: Section,
     first: usize,
-    best: Best,
+    best: Option<Best>,
     j: usize,
     p: Pattern,
 ) -> Best
     requires inside { inside desc.now constructor_bytes constructors }
-    requires at_bound { best.found ≡ true → first + best.at < constructors.count }
+    requires at_bound { ForSome best (λ b. first + b.at < constructors.count) }
     requires p_value { p ≡ pattern_in desc.now constructors first j }
     ensures { result ≡ with_match (pattern_in desc.now constructors first) best j }
 {
-    if best.found {
-        let q = pattern_in(desc, constructors, first, best.at);
-        let outer = patterns::lies_inside(q, p);
-        if patterns::lies_inside(p, q) {
-            return Best {
-                found: true,
-                unsure: best.unsure | outer,
-                at: j,
-            };
-        }
+    let Some(best) = best else {
         return Best {
-            found: true,
-            unsure: best.unsure | !outer,
-            at: best.at,
+            unsure: false,
+            at: j,
+        };
+    };
+    let q = pattern_in(desc, constructors, first, best.at);
+    let outer = patterns::lies_inside(q, p);
+    if patterns::lies_inside(p, q) {
+        return Best {
+            unsure: best.unsure | outer,
+            at: j,
         };
     }
     Best {
-        found: true,
-        unsure: false,
-        at: j,
+        unsure: best.unsure | !outer,
+        at: best.at,
     }
 }
 
@@ -170,33 +161,35 @@ fn skip(desc: &[u8], constructors: Section, table: Table, input: Input, from: us
     from
 }
 
-fn scan(desc: &[u8], constructors: Section, table: Table, input: Input) -> Scanned
+// The best of the records that match, unless one is cut off.
+fn scan(
+    desc: &[u8],
+    constructors: Section,
+    table: Table,
+    input: Input,
+) -> Result<Option<Best>, NotChosen>
     requires inside { inside desc.now constructor_bytes constructors }
     requires count_bound { table.first + table.count ≤ constructors.count }
     ensures { ScanResult (patterns_in desc.now constructors table) input table.count result }
 {
-    let mut best = Best {
-        found: false,
-        unsure: false,
-        at: 0,
-    };
+    let mut best = None;
     let mut next = 0;
     while next < table.count {
         let j = skip(desc, constructors, table, input, next);
         if j == table.count {
-            return Scanned::Complete(best);
+            return Ok(best);
         }
         next = j + 1;
         let p = pattern_in(desc, constructors, table.first, j);
         if patterns::agrees(p, input) {
             if patterns::whole(p, input) {
-                best = with_match(desc, constructors, table.first, best, j, p);
+                best = Some(with_match(desc, constructors, table.first, best, j, p));
             } else {
-                return Scanned::CutOff;
+                return Err(NotChosen::Short);
             }
         }
     }
-    Scanned::Complete(best)
+    Ok(best)
 }
 
 fn clears_all(desc: &[u8], constructors: Section, table: Table, input: Input, t: usize) -> bool
@@ -206,14 +199,11 @@ fn clears_all(desc: &[u8], constructors: Section, table: Table, input: Input, t:
     ensures { result ≡ clears_all (patterns_in desc.now constructors table) input table.count t }
 {
     let q = pattern_in(desc, constructors, table.first, t);
-    let mut j = 0;
-    while j < table.count {
+    for j in 0..table.count {
         let p = pattern_in(desc, constructors, table.first, j);
         let hit = patterns::agrees(p, input) & patterns::whole(p, input);
         let clear = (j == t) | !hit | (patterns::lies_inside(q, p) & !patterns::lies_inside(p, q));
-        if clear {
-            j += 1;
-        } else {
+        if !clear {
             return false;
         }
     }
@@ -221,22 +211,25 @@ fn clears_all(desc: &[u8], constructors: Section, table: Table, input: Input, t:
 }
 
 // Where the pass left no doubt, its record is taken; else every record is looked at once more.
-fn settle(desc: &[u8], constructors: Section, table: Table, input: Input, best: Best) -> Choice
+fn settle(
+    desc: &[u8],
+    constructors: Section,
+    table: Table,
+    input: Input,
+    best: Option<Best>,
+) -> Result<usize, NotChosen>
     requires inside { inside desc.now constructor_bytes constructors }
     requires count_bound { table.first + table.count ≤ constructors.count }
     requires passed { Passed (patterns_in desc.now constructors table) input table.count best }
     ensures { ChoiceOf (patterns_in desc.now constructors table) input table.count result }
 {
-    if best.found {
-        if best.unsure {
-            if clears_all(desc, constructors, table, input, best.at) {
-                return Choice::Taken(best.at);
-            }
-            return Choice::Ambiguous;
-        }
-        return Choice::Taken(best.at);
+    let Some(best) = best else {
+        return Err(NotChosen::NoMatch);
+    };
+    if best.unsure && !clears_all(desc, constructors, table, input, best.at) {
+        return Err(NotChosen::Ambiguous);
     }
-    Choice::NoMatch
+    Ok(best.at)
 }
 
 // The choice in a table, for the bytes of the code and a context: `count` records from `first` on, of the constructors' section. Plain
@@ -249,7 +242,7 @@ pub fn choose_in(
     count: usize,
     code: &[u8],
     context: u64,
-) -> Choice
+) -> Result<usize, NotChosen>
     requires { inside desc.now constructor_bytes (section_as start records) × (first + count ≤ records) }
     ensures { result ≡ choose (pattern_in desc.now (section_as start records) first) count code.now context }
 {
@@ -259,9 +252,6 @@ pub fn choose_in(
     };
     let table = Table { first, count };
     let input = patterns::input_of(code, context);
-    let scanned = scan(desc, constructors, table, input);
-    match scanned {
-        Scanned::CutOff => Choice::Short,
-        Scanned::Complete(best) => settle(desc, constructors, table, input, best),
-    }
+    let best = scan(desc, constructors, table, input)?;
+    settle(desc, constructors, table, input, best)
 }

@@ -1,10 +1,8 @@
 -- The clash check of a table: `at j` is the pattern of record j, and there are n.
-use Rattle.std.specs.Prelude.{ℕ, Bool, cond, ◌&&◌, ◌||◌, not, List, [], ◌∷◌, eqb, ltb, leb}
+use Rattle.std.specs.Prelude.{ℕ, Bool, cond, ◌&&◌, ◌||◌, not, List, [], ◌∷◌, eqb, ltb, leb, Option, Some, None}
 use Rattle.lists.specs.Below.{any_below, first_below}
 use Rattle.patterns.specs.Relations.{inside, overlap, overlap_of, equal}
 use Rattle.format.specs.declared.Pattern.{Pattern}
-use Rattle.choosing_spec.specs.declared.Clash.{Clash}
-use Rattle.choosing_spec.specs.declared.Clash.TheVariants.{Clear, Pair}
 
 module _ (at : ℕ → Pattern) (n : ℕ) where
   -- "overlap with neither inside the other"
@@ -31,15 +29,15 @@ module _ (at : ℕ → Pattern) (n : ℕ) where
   unfoldable pub first_clash : ℕ
   first_clash = first_below n (λ i. leb n (partner i))
 
-  -- "the pair of records i < j with smallest i, then j .. else clear"
-  unfoldable pub clash_of : Clash
-  clash_of = cond (ltb first_clash n) (Pair first_clash (partner first_clash)) Clear
+  -- "the pair of records i < j with smallest i, then j .. else clear", numbered within the table
+  unfoldable pub clash_of : Option (ℕ × ℕ)
+  clash_of = cond (ltb first_clash n) (Some (first_clash, partner first_clash)) None
 
 -- its number in document 01's table, since a clash is an answer and not a refusal ..
-abbrev pub clash_number : Clash → ℕ
+abbrev pub clash_number : Option (ℕ × ℕ) → ℕ
 clash_number r = 0
 
--- .. and its values: 0 for clear, or 1 and the pair, numbered within the table
-abbrev pub clash_values : Clash → List ℕ
-clash_values Clear = 0 ∷ []
-clash_values (Pair i j) = 1 ∷ i ∷ j ∷ []
+-- .. and its values: 0 for clear, or 1 and the pair
+abbrev pub clash_values : Option (ℕ × ℕ) → List ℕ
+clash_values None = 0 ∷ []
+clash_values (Some (i, j)) = 1 ∷ i ∷ j ∷ []

@@ -1,17 +1,9 @@
-// What choosing in a table, and its clash check, may answer. Their meaning is in specs/.
+// Why choosing in a table takes no record. The meaning is in specs/.
 #![tactic(auto)]
 
-// A record is numbered within its table.
 #[derive(Clone, Copy)]
-pub enum Choice {
+pub enum NotChosen {
     Short,
     NoMatch,
-    Taken(usize),
     Ambiguous,
-}
-
-#[derive(Clone, Copy)]
-pub enum Clash {
-    Clear,
-    Pair(usize, usize),
 }

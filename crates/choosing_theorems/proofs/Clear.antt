@@ -3,19 +3,19 @@ use Prim.Native.Nat.{ℕ, zero, suc, ◌<◌, ◌≤◌}
 use mathlib.Core.Bool.{Bool, true, false, cond, not, ◌&&◌, false≢true}
 use mathlib.Core.List.{List}
 use mathlib.Core.Logic.{◌⊎◌, inl, inr}
-use mathlib.Core.Path.{◌≡◌, refl, sym, subst₂, ◌∙◌}
+use mathlib.Core.Path.{◌≡◌, refl, sym, subst, ◌∙◌}
 use native.Mathlib.Decide.{dec_lt}
 use native.Mathlib.Omega.{arith}
 use borrow.Author.Tests.{eqb-true, lt-ltb, ltb-true, ltb-false, leb-true, leb-false, not-true, not-false}
 use lib.Dec.{eqb, ltb, leb}
+use Rattle.std.specs.Prelude.{Option, Some, None, Err}
 use Rattle.lists.specs.Below.{all_below}
 use Rattle.lists.proofs.Below.{First, all-at, any_found, first-is, first-all}
 use Rattle.lists.proofs.Bools.{and_left, and_right, and4, or_yes}
 use Rattle.choosing_spec.specs.Clashing.{crossing, third, clashing, partner, first_clash, clash_of}
 use Rattle.choosing_spec.specs.Choosing.{matching, choose}
 use Rattle.choosing_spec.specs.ValidPattern.{ValidPattern}
-use Rattle.choosing_spec.specs.declared.Choice.TheVariants.{Ambiguous}
-use Rattle.choosing_spec.specs.declared.Clash.TheVariants.{Clear, Pair}
+use Rattle.choosing_spec.specs.declared.NotChosen.TheVariants.{Ambiguous}
 use Rattle.format.specs.declared.Pattern.{Pattern}
 use Rattle.patterns.specs.Relations.{inside, overlap, overlap_of, equal}
 use Rattle.choosing_theorems.specs.Pair.{FirstPair}
@@ -69,26 +69,25 @@ module _ (at : ℕ → Pattern) (n : ℕ) where
 
   -- "the pair of records i < j with smallest i, then j, whose patterns are equal, or overlap with neither inside the other and no
   -- third in the table equal to exactly their overlap; else clear"
-  pub pair-first : (i j : ℕ) → clash_of at n ≡ Pair i j → FirstPair at n i j
+  pub pair-first : (i j : ℕ) → clash_of at n ≡ Some (i, j) → FirstPair at n i j
   unfolding clash_of
   pair-first i j e = go (ltb (first_clash at n) n) refl e
     where
-      go : (b : Bool) → ltb (first_clash at n) n ≡ b → cond b (Pair (first_clash at n) (partner at n (first_clash at n))) Clear ≡ Pair i j
+      go : (b : Bool) → ltb (first_clash at n) n ≡ b → cond {A = Option (ℕ × ℕ)} b (Some (first_clash at n, partner at n (first_clash at n))) None ≡ Some (i, j)
           → FirstPair at n i j
       go true p q =
-          let x : first_clash at n ≡ i = cc in
-          let y : partner at n (first_clash at n) ≡ j = cc in
-          subst₂ (FirstPair at n) x y (found (ltb-true (first_clash at n) n p))
-      go false p q = absurd (let z : ◌≡◌ {A = ℕ} 0 1 = cc in omega arith)
+          let z : ◌≡◌ {A = ℕ × ℕ} (first_clash at n, partner at n (first_clash at n)) (i, j) = cc in
+          subst (λ r. FirstPair at n r.0 r.1) z (found (ltb-true (first_clash at n) n p))
+      go false p q = cc
 
   -- in a clear table no two records clash
-  pub clear-pairs : clash_of at n ≡ Clear → (i j : ℕ) → i < j → j < n → clashing at n i j ≡ false
+  pub clear-pairs : clash_of at n ≡ None → (i j : ℕ) → i < j → j < n → clashing at n i j ≡ false
   unfolding clash_of first_clash
   clear-pairs e i j h l = go (ltb (first_clash at n) n) refl e
     where
-      go : (b : Bool) → ltb (first_clash at n) n ≡ b → cond b (Pair (first_clash at n) (partner at n (first_clash at n))) Clear ≡ Clear
+      go : (b : Bool) → ltb (first_clash at n) n ≡ b → cond {A = Option (ℕ × ℕ)} b (Some (first_clash at n, partner at n (first_clash at n))) None ≡ None
           → clashing at n i j ≡ false
-      go true p q = absurd (let z : ◌≡◌ {A = ℕ} 0 1 = cc in omega arith)
+      go true p q = cc
       go false p q = quiet-before n (first-all is_quiet n (ltb-false (first_clash at n) n p)) i j (omega arith) h l
 
 -- equal patterns are one
@@ -105,7 +104,7 @@ one-pattern a b e =
     }
 
 -- in a table without a clash no two records lie inside each other: they would be equal
-module _ (at : ℕ → Pattern) (n : ℕ) (sound : (i : ℕ) → i < n → ValidPattern (at i)) (clear : clash_of at n ≡ Clear) where
+module _ (at : ℕ → Pattern) (n : ℕ) (sound : (i : ℕ) → i < n → ValidPattern (at i)) (clear : clash_of at n ≡ None) where
   before-apart : (i j : ℕ) → i < j → j < n → inside (at i) (at j) ≡ true → inside (at j) (at i) ≡ true → ⊥
   unfolding clashing
   before-apart i j o l p q =
@@ -121,7 +120,7 @@ module _ (at : ℕ → Pattern) (n : ℕ) (sound : (i : ℕ) → i < n → Valid
       go true q (no o) = absurd (before-apart j i (omega (arith, d)) h q p)
 
 -- a table without a clash
-module _ (at : ℕ → Pattern) (n : ℕ) (s : List ℕ) (c : ℕ) (sound : (i : ℕ) → i < n → ValidPattern (at i)) (clear : clash_of at n ≡ Clear) where
+module _ (at : ℕ → Pattern) (n : ℕ) (s : List ℕ) (c : ℕ) (sound : (i : ℕ) → i < n → ValidPattern (at i)) (clear : clash_of at n ≡ None) where
   -- a matching record inside both i and j
   record Under (i j : ℕ) : Type 0 where
     it : ℕ
@@ -249,13 +248,13 @@ module _ (at : ℕ → Pattern) (n : ℕ) (s : List ℕ) (c : ℕ) (sound : (i :
       }
 
   -- "A clear table is never ambiguous."
-  pub never-ambiguous : choose at n s c ≡ Ambiguous → ⊥
+  pub never-ambiguous : choose at n s c ≡ Err Ambiguous → ⊥
   never-ambiguous e = go (answer at n s c)
     where
       go : Answer at n s c (choose at n s c) → ⊥
-      go (cut p q) = let z : ◌≡◌ {A = ℕ} 0 1 = cc in omega arith
-      go (none p m q) = let z : ◌≡◌ {A = ℕ} 0 1 = cc in omega arith
-      go (one p t r q) = let z : ◌≡◌ {A = ℕ} 0 1 = cc in omega arith
+      go (cut p q) = cc
+      go (none p m q) = cc
+      go (one p t r q) = cc
       go (torn p m f q) =
           let (j, h, w) = any_found (matching at n s c) n m in
           let r : Took j = took j h w in

@@ -10,6 +10,7 @@ use borrow.Author.Tests.{lt-ltb, eqb-true}
 use lib.ListN.{length, get_or, length-append, get_or-eq_default}
 use lib.Pow.{shr-shr}
 use lib.Seq.{get_or-append-add}
+use Rattle.std.specs.Prelude.{None, Ok, Err}
 use Rattle.lists.specs.Below.{all_below}
 use Rattle.lists.specs.Tab.{tab}
 use Rattle.lists.proofs.Below.{all-at, any_found}
@@ -20,8 +21,7 @@ use Rattle.bits.proofs.Digits.{bit-small, either, low_bit}
 use Rattle.choosing_spec.specs.Choosing.{short, matching, choose}
 use Rattle.choosing_spec.specs.Clashing.{clash_of}
 use Rattle.choosing_spec.specs.ValidPattern.{ValidPattern}
-use Rattle.choosing_spec.specs.declared.Choice.TheVariants.{Short, Taken}
-use Rattle.choosing_spec.specs.declared.Clash.TheVariants.{Clear}
+use Rattle.choosing_spec.specs.declared.NotChosen.TheVariants.{Short}
 use Rattle.format.specs.declared.Pattern.{Pattern}
 use Rattle.patterns.specs.Matching.{byte_bit, present, matches, agrees, masks_missing, cut_off}
 use Rattle.choosing_theorems.specs.Continuing.{Differ}
@@ -120,7 +120,7 @@ cut-matches p s c e =
 
 module _ (at : ℕ → Pattern) (n : ℕ) (s : List ℕ) (c : ℕ) where
   -- record i is cut short at bit k. Where i's own value goes on, a record inside i is taken; where bit k is other, it is not.
-  differs : ((i : ℕ) → i < n → ValidPattern (at i)) → clash_of at n ≡ Clear → (i : ℕ) → i < n → short at n s c i ≡ true → Differ at n s c
+  differs : ((i : ℕ) → i < n → ValidPattern (at i)) → clash_of at n ≡ None → (i : ℕ) → i < n → short at n s c i ≡ true → Differ at n s c
   unfolding short matching cut_off
   differs sound clear i h e =
       record {
@@ -148,7 +148,7 @@ module _ (at : ℕ → Pattern) (n : ℕ) (s : List ℕ) (c : ℕ) where
       t : Took at n (s ++ these) c sound clear i
       t = took at n (s ++ these) c sound clear i h (cut-matches (at i) s c e)
 
-      first : choose at n (s ++ these) c ≡ Taken t.it
+      first : choose at n (s ++ these) c ≡ Ok t.it
       first =
           choose-taken at n (s ++ these) c
           (none_of (short at n (s ++ these) c) n (λ j l. rest-whole s (byte_of (at i).value) (at j) c)) t.it t.strict
@@ -162,24 +162,24 @@ module _ (at : ℕ → Pattern) (n : ℕ) (s : List ℕ) (c : ℕ) where
           omega (arith, u.1, v.1, w, fill x (omega arith) (r.place % 8) (omega arith), bit-small (at i).value r.place)
 
   -- "In a clear table "short" is given exactly when two continuations to eight or more bytes would be answered differently."
-  pub short-differ : ((i : ℕ) → i < n → ValidPattern (at i)) → clash_of at n ≡ Clear → choose at n s c ≡ Short → Differ at n s c
+  pub short-differ : ((i : ℕ) → i < n → ValidPattern (at i)) → clash_of at n ≡ None → choose at n s c ≡ Err Short → Differ at n s c
   short-differ sound clear e = go (answer at n s c)
     where
       go : Answer at n s c (choose at n s c) → Differ at n s c
       go (cut p q) = let (i, h, w) = any_found (short at n s c) n p in differs sound clear i h w
-      go (none p m q) = absurd (let z : ◌≡◌ {A = ℕ} 0 1 = cc in omega arith)
-      go (one p t r q) = absurd (let z : ◌≡◌ {A = ℕ} 0 1 = cc in omega arith)
-      go (torn p m f q) = absurd (let z : ◌≡◌ {A = ℕ} 0 1 = cc in omega arith)
+      go (none p m q) = cc
+      go (one p t r q) = cc
+      go (torn p m f q) = cc
 
   -- the other way, in any table: an answer that is not short would stay the same for both
-  pub differ-short : Differ at n s c → choose at n s c ≡ Short
+  pub differ-short : Differ at n s c → choose at n s c ≡ Err Short
   differ-short d = go (answer at n s c)
     where
-      no_other : (choose at n s c ≡ Short → ⊥) → ⊥
+      no_other : (choose at n s c ≡ Err Short → ⊥) → ⊥
       no_other f = d.differ (stays at n s d.these c f ∙ sym (stays at n s d.those c f))
 
-      go : Answer at n s c (choose at n s c) → choose at n s c ≡ Short
+      go : Answer at n s c (choose at n s c) → choose at n s c ≡ Err Short
       go (cut p q) = q
-      go (none p m q) = absurd (no_other (λ (e : choose at n s c ≡ Short). let z : ◌≡◌ {A = ℕ} 0 1 = cc in omega arith))
-      go (one p t r q) = absurd (no_other (λ (e : choose at n s c ≡ Short). let z : ◌≡◌ {A = ℕ} 0 1 = cc in omega arith))
-      go (torn p m f q) = absurd (no_other (λ (e : choose at n s c ≡ Short). let z : ◌≡◌ {A = ℕ} 0 1 = cc in omega arith))
+      go (none p m q) = absurd (no_other (λ (e : choose at n s c ≡ Err Short). cc))
+      go (one p t r q) = absurd (no_other (λ (e : choose at n s c ≡ Err Short). cc))
+      go (torn p m f q) = absurd (no_other (λ (e : choose at n s c ≡ Err Short). cc))

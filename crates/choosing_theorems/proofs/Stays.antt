@@ -6,12 +6,13 @@ use mathlib.Core.Path.{◌≡◌, refl, sym, ap, ◌∙◌}
 use native.Mathlib.Omega.{arith}
 use borrow.Author.Tests.{lt-ltb, ltb-true}
 use lib.ListN.{length, length-append, get_or-append}
+use Rattle.std.specs.Prelude.{Err}
 use Rattle.lists.specs.Below.{any_below}
 use Rattle.lists.proofs.Below.{any_at, any_found}
 use Rattle.lists.proofs.Bools.{and_left, and_right, and_both, same}
 use Rattle.bits.specs.Bits.{bit}
 use Rattle.choosing_spec.specs.Choosing.{short, matching, choose}
-use Rattle.choosing_spec.specs.declared.Choice.TheVariants.{Short}
+use Rattle.choosing_spec.specs.declared.NotChosen.TheVariants.{Short}
 use Rattle.format.specs.declared.Pattern.{Pattern}
 use Rattle.patterns.proofs.Words.{matches-is}
 use Rattle.patterns.specs.Matching.{byte_bit, present, matches, agrees, masks_missing, cut_off}
@@ -90,7 +91,7 @@ module _ (at : ℕ → Pattern) (n : ℕ) (s m : List ℕ) (c : ℕ) where
     alike i h = keeps-matching s m (at i) c (none-at (short at n s c) n p i h)
 
   -- Demand 2: an answer, unless short, stays the same whatever bytes follow.
-  pub stays : (choose at n s c ≡ Short → ⊥) → choose at n (s ++ m) c ≡ choose at n s c
+  pub stays : (choose at n s c ≡ Err Short → ⊥) → choose at n (s ++ m) c ≡ choose at n s c
   stays f = go (answer at n s c)
     where
       go : Answer at n s c (choose at n s c) → choose at n (s ++ m) c ≡ choose at n s c

@@ -7,12 +7,13 @@ use native.Mathlib.Decide.{ℕ_discrete}
 use native.Mathlib.Omega.{arith}
 use borrow.Author.Tests.{eq-eqb, ne_eqb, eqb-true, eqb-false, lt-ltb, ltb-true, not-false}
 use lib.Dec.{eqb, ltb}
+use Rattle.std.specs.Prelude.{Result, Ok, Err}
 use Rattle.lists.specs.Below.{all_below, any_below}
 use Rattle.lists.proofs.Below.{all_of, all-at, any_at, first-is, first-stop}
 use Rattle.lists.proofs.Bools.{and_left, and_right, and_both, or_no, or_yes}
 use Rattle.choosing_spec.specs.Choosing.{short, matching, innermost, taken, alone, choose}
-use Rattle.choosing_spec.specs.declared.Choice.{Choice}
-use Rattle.choosing_spec.specs.declared.Choice.TheVariants.{Short, NoMatch, Taken, Ambiguous}
+use Rattle.choosing_spec.specs.declared.NotChosen.{NotChosen}
+use Rattle.choosing_spec.specs.declared.NotChosen.TheVariants.{Short, NoMatch, Ambiguous}
 use Rattle.format.specs.declared.Pattern.{Pattern}
 use Rattle.patterns.specs.Relations.{inside}
 use Rattle.choosing_theorems.specs.Taken.{TakenFacts, Strict}
@@ -121,73 +122,73 @@ module _ (at : ℕ → Pattern) (n : ℕ) (s : List ℕ) (c : ℕ) where
       go i h (no d) = rw (others t r i h d) (or_yes (eqb i t))
 
   -- "1. Short, if some pattern agrees with the context and all bytes present and masks a bit of a missing byte."
-  pub choose-short : (i : ℕ) → i < n → short at n s c i ≡ true → choose at n s c ≡ Short
+  pub choose-short : (i : ℕ) → i < n → short at n s c i ≡ true → choose at n s c ≡ Err Short
   unfolding choose
   choose-short i h e = rw (any_at (short at n s c) n i h e)
 
   -- "3. Taken is the matching constructor inside all other matching ones" ..
-  pub choose-taken : any_below n (short at n s c) ≡ false → (t : ℕ) → Strict at n s c t → choose at n s c ≡ Taken t
+  pub choose-taken : any_below n (short at n s c) ≡ false → (t : ℕ) → Strict at n s c t → choose at n s c ≡ Ok t
   unfolding choose
   choose-taken e t r =
       rw (e, any_at (matching at n s c) n t r.within r.matches, strict-alone t r, strict-taken t r)
 
   -- .. "if there is none such, or more than one, ambiguous."
   pub choose-ambiguous : any_below n (short at n s c) ≡ false → any_below n (matching at n s c) ≡ true
-      → ((t : ℕ) → Strict at n s c t → ⊥) → choose at n s c ≡ Ambiguous
+      → ((t : ℕ) → Strict at n s c t → ⊥) → choose at n s c ≡ Err Ambiguous
   unfolding choose
   choose-ambiguous e m f = rw (e, m) (go (alone at n s c) refl)
     where
-      go : (b : Bool) → alone at n s c ≡ b → cond b (Taken (taken at n s c)) Ambiguous ≡ Ambiguous
+      go : (b : Bool) → alone at n s c ≡ b → cond b (Ok (taken at n s c)) (Err Ambiguous) ≡ Err Ambiguous
       go true q = absurd (f (taken at n s c) (alone-strict q))
       go false q = refl
 
   -- "2. No match, if none matches."
-  pub no-match-back : ((i : ℕ) → i < n → (matching at n s c i ≡ false) × (short at n s c i ≡ false)) → choose at n s c ≡ NoMatch
+  pub no-match-back : ((i : ℕ) → i < n → (matching at n s c i ≡ false) × (short at n s c i ≡ false)) → choose at n s c ≡ Err NoMatch
   unfolding choose
   no-match-back f =
       rw (none_of (short at n s c) n (λ i h. (f i h).1), none_of (matching at n s c) n (λ i h. (f i h).0))
 
   -- the four answers, each with what it says
-  pub data Answer (r : Choice) : Type 0 where
-    cut : any_below n (short at n s c) ≡ true → r ≡ Short → Answer r
-    none : any_below n (short at n s c) ≡ false → any_below n (matching at n s c) ≡ false → r ≡ NoMatch → Answer r
-    one : any_below n (short at n s c) ≡ false → (t : ℕ) → Strict at n s c t → r ≡ Taken t → Answer r
+  pub data Answer (r : Result ℕ NotChosen) : Type 0 where
+    cut : any_below n (short at n s c) ≡ true → r ≡ Err Short → Answer r
+    none : any_below n (short at n s c) ≡ false → any_below n (matching at n s c) ≡ false → r ≡ Err NoMatch → Answer r
+    one : any_below n (short at n s c) ≡ false → (t : ℕ) → Strict at n s c t → r ≡ Ok t → Answer r
     torn : any_below n (short at n s c) ≡ false → any_below n (matching at n s c) ≡ true → ((t : ℕ) → Strict at n s c t → ⊥)
-        → r ≡ Ambiguous → Answer r
+        → r ≡ Err Ambiguous → Answer r
 
   pub answer : Answer (choose at n s c)
   unfolding choose
   answer = go (any_below n (short at n s c)) refl (any_below n (matching at n s c)) refl (alone at n s c) refl
     where
       go : (x : Bool) → any_below n (short at n s c) ≡ x → (y : Bool) → any_below n (matching at n s c) ≡ y → (z : Bool) → alone at n s c ≡ z
-          → Answer (cond x Short (cond y (cond z (Taken (taken at n s c)) Ambiguous) NoMatch))
+          → Answer (cond x (Err Short) (cond y (cond z (Ok (taken at n s c)) (Err Ambiguous)) (Err NoMatch)))
       go true p y q z r = cut p refl
       go false p false q z r = none p q refl
       go false p true q true r = one p (taken at n s c) (alone-strict r) refl
       go false p true q false r = torn p q (λ t h. false≢true (sym r ∙ strict-alone t h)) refl
 
   -- what "taken" says
-  pub taken-strict : (t : ℕ) → choose at n s c ≡ Taken t → Strict at n s c t
+  pub taken-strict : (t : ℕ) → choose at n s c ≡ Ok t → Strict at n s c t
   taken-strict t e = go answer
     where
       go : Answer (choose at n s c) → Strict at n s c t
-      go (cut p q) = absurd (let z : ◌≡◌ {A = ℕ} 0 1 = cc in omega arith)
-      go (none p m q) = absurd (let z : ◌≡◌ {A = ℕ} 0 1 = cc in omega arith)
+      go (cut p q) = cc
+      go (none p m q) = cc
       go (one p u r q) = let z : u ≡ t = cc in rw z at r
-      go (torn p m f q) = absurd (let z : ◌≡◌ {A = ℕ} 0 1 = cc in omega arith)
+      go (torn p m f q) = cc
 
   -- the same in the words of the sentence: inside all other matching ones, and the only such one
-  pub taken-facts : (t : ℕ) → choose at n s c ≡ Taken t → TakenFacts at n s c t
+  pub taken-facts : (t : ℕ) → choose at n s c ≡ Ok t → TakenFacts at n s c t
   taken-facts t e =
       let r : Strict at n s c t = taken-strict t e in
       record { within = r.within; matches = r.matches; inmost = λ j h d m. (r.above j h d m).0; only = strict-only t r }
 
   -- what "no match" says: none matches, and none is cut short
-  pub no-match : choose at n s c ≡ NoMatch → (i : ℕ) → i < n → (matching at n s c i ≡ false) × (short at n s c i ≡ false)
+  pub no-match : choose at n s c ≡ Err NoMatch → (i : ℕ) → i < n → (matching at n s c i ≡ false) × (short at n s c i ≡ false)
   no-match e i h = go answer
     where
       go : Answer (choose at n s c) → (matching at n s c i ≡ false) × (short at n s c i ≡ false)
-      go (cut p q) = absurd (let z : ◌≡◌ {A = ℕ} 0 1 = cc in omega arith)
+      go (cut p q) = cc
       go (none p m q) = (none-at (matching at n s c) n m i h, none-at (short at n s c) n p i h)
-      go (one p t r q) = absurd (let z : ◌≡◌ {A = ℕ} 0 1 = cc in omega arith)
-      go (torn p m f q) = absurd (let z : ◌≡◌ {A = ℕ} 0 1 = cc in omega arith)
+      go (one p t r q) = cc
+      go (torn p m f q) = cc

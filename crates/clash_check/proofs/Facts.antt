@@ -8,6 +8,7 @@ use borrow.Author.Tests.{eqb-true}
 use lib.Bits.{bit_and}
 use lib.Dec.{eqb}
 use lib.ListN.{length, get_or}
+use Rattle.std.specs.Prelude.{None, Err}
 use Rattle.lists.proofs.Below.{all-at}
 use Rattle.lists.proofs.Bools.{and_left, and_right}
 use Rattle.format.specs.Numbers.{operands_each, pieces_each}
@@ -21,8 +22,7 @@ use Rattle.format.proofs.Formation.{obeyed}
 use Rattle.format.proofs.Tables.{shaped, first-within, end-within}
 use Rattle.choosing_spec.specs.Clashing.{clash_of}
 use Rattle.choosing_spec.specs.ValidPattern.{ValidPattern}
-use Rattle.choosing_spec.specs.declared.Choice.TheVariants.{Short, Ambiguous}
-use Rattle.choosing_spec.specs.declared.Clash.TheVariants.{Clear}
+use Rattle.choosing_spec.specs.declared.NotChosen.TheVariants.{Short, Ambiguous}
 use Rattle.choosing_spec.specs.Table.{pattern_from, choose_in}
 use Rattle.choosing.proofs.Settling.{rows-small}
 use Rattle.choosing_theorems.specs.Continuing.{Differ}
@@ -59,22 +59,22 @@ module _ (b : List ℕ) (l : Layout) (bytes : (i : ℕ) → get_or b i 0 < 256) 
         contextmasked = eqb-true (bit_and p.contextvalue p.contextmask) p.contextvalue (and_right byte context v);
       }
 
-  module _ (t : ℕ) (clear : clash_of (pattern_from (description b l) (table_first (description b l) t)) (table_end (description b l) t - table_first (description b l) t) ≡ Clear) where
+  module _ (t : ℕ) (clear : clash_of (pattern_from (description b l) (table_first (description b l) t)) (table_end (description b l) t - table_first (description b l) t) ≡ None) where
     sound : (i : ℕ) → i < table_end (description b l) t - table_first (description b l) t → ValidPattern (pattern_from (description b l) (table_first (description b l) t) i)
     sound i h =
         let o = obeyed b l f in
         pattern-sound (table_first (description b l) t) i (omega (arith, first-within (description b l) o t, end-within (description b l) o t))
 
     -- "A clear table is never ambiguous."
-    pub clear-table : (s : List ℕ) (c : ℕ) → choose_in (description b l) t s c ≡ Ambiguous → ⊥
+    pub clear-table : (s : List ℕ) (c : ℕ) → choose_in (description b l) t s c ≡ Err Ambiguous → ⊥
     clear-table s c e = never-ambiguous _ _ s c sound clear e
 
     -- "In a clear table "short" is given exactly when two continuations to eight or more bytes would be answered differently."
-    pub short-table : (s : List ℕ) (c : ℕ) → choose_in (description b l) t s c ≡ Short
+    pub short-table : (s : List ℕ) (c : ℕ) → choose_in (description b l) t s c ≡ Err Short
         → Differ (pattern_from (description b l) (table_first (description b l) t)) (table_end (description b l) t - table_first (description b l) t) s c
     short-table s c e = short-differ _ _ s c sound clear e
 
     pub table-short : (s : List ℕ) (c : ℕ)
         → Differ (pattern_from (description b l) (table_first (description b l) t)) (table_end (description b l) t - table_first (description b l) t) s c
-        → choose_in (description b l) t s c ≡ Short
+        → choose_in (description b l) t s c ≡ Err Short
     table-short s c w = differ-short _ _ s c w

@@ -1,10 +1,11 @@
 -- A pair by the patterns that were read, and the pair that the loops find.
 use Prim.Native.Nat.{ℕ, ◌+◌, ◌-◌, ◌<◌, ◌≤◌}
-use mathlib.Core.Bool.{Bool, true, false, not, ◌&&◌, ◌||◌, false≢true}
+use mathlib.Core.Bool.{Bool, true, false, cond, not, ◌&&◌, ◌||◌, false≢true}
 use mathlib.Core.Path.{◌≡◌, refl, sym, ◌∙◌}
 use native.Mathlib.Omega.{arith}
-use borrow.Author.Tests.{lt-ltb, le-ltb, le-leb, lt-leb, eq-eqb, eqb-true}
+use borrow.Author.Tests.{lt-ltb, le-ltb, ltb-true, ltb-false, le-leb, lt-leb, eq-eqb, eqb-true}
 use lib.Dec.{eqb, ltb, leb}
+use Rattle.std.specs.Prelude.{Option, Some, None, Ok}
 use Rattle.lists.specs.Below.{all_below, first_below}
 use Rattle.lists.proofs.Bools.{and4, and_both, or_yes}
 use Rattle.lists.proofs.Below.{all_of, all_more, first-stop, first_done}
@@ -15,11 +16,10 @@ use Rattle.format.specs.Tables.{table_first, table_end}
 use Rattle.format.specs.declared.Pattern.{Pattern}
 use Rattle.patterns.specs.Relations.{inside, meet_bits, overlap, overlap_of, equal}
 use Rattle.choosing_spec.specs.Clashing.{another, crossing, third, clashing, partner, first_clash, clash_of}
-use Rattle.choosing_spec.specs.declared.Clash.{Clash}
-use Rattle.choosing_spec.specs.declared.Clash.TheVariants.{Clear, Pair}
 use Rattle.choosing_spec.specs.Table.{pattern_from}
 use Rattle.choosing.proofs.Keeping.{neither}
 use Rattle.clash_check.specs.Entry.{placed, clash_in}
+use Rattle.clash_check.specs.Partner.{partner_if}
 
 -- equal patterns overlap
 meet-same : (n am bm v : ℕ) → meet_bits n am v bm v ≡ true
@@ -79,28 +79,46 @@ module _ (at : ℕ → Pattern) (n : ℕ) where
   pub parted-more : (i j : ℕ) → i < j → clashing at n i j ≡ false → all_below j (parted i) ≡ true → all_below (j + 1) (parted i) ≡ true
   parted-more i j h e p = all_more (parted i) j p (rw (lt-ltb i j h, e))
 
-  pub partner-stop : (i j : ℕ) → i < j → j < n → clashing at n i j ≡ true → all_below j (parted i) ≡ true → j ≡ partner at n i
+  pub partner-stop : (i j : ℕ) → i < j → j < n → clashing at n i j ≡ true → all_below j (parted i) ≡ true → Some j ≡ partner_if at n i
   unfolding partner
-  partner-stop i j h l e p = sym (first-stop (parted i) n j p l (rw (lt-ltb i j h, e)))
+  partner-stop i j h l e p =
+      let f : first_below n (parted i) ≡ j = first-stop (parted i) n j p l (rw (lt-ltb i j h, e)) in
+      rw (f, lt-ltb j n l)
 
-  pub partner-done : (i : ℕ) → all_below n (parted i) ≡ true → n ≡ partner at n i
+  pub partner-done : (i : ℕ) → all_below n (parted i) ≡ true → None ≡ partner_if at n i
   unfolding partner
-  partner-done i p = sym (first_done (parted i) n p)
+  partner-done i p =
+      let f : first_below n (parted i) ≡ n = first_done (parted i) n p in
+      rw (f, le-ltb n n (omega arith))
+
+  -- what the search for a partner found
+  there : (i j : ℕ) → (b : Bool) → ltb (partner at n i) n ≡ b → Some j ≡ cond b (Some (partner at n i)) None → (j ≡ partner at n i) × (j < n)
+  there i j true h e =
+      let f : j ≡ partner at n i = cc in
+      (f, rw f (ltb-true (partner at n i) n h))
+  there i j false h e = cc
+
+  missing : (i : ℕ) → (b : Bool) → ltb (partner at n i) n ≡ b → None ≡ cond b (Some (partner at n i)) None → n ≤ partner at n i
+  missing i true h e = cc
+  missing i false h e = ltb-false (partner at n i) n h
 
   -- record i has no partner
   abbrev pub quiet : ℕ → Bool
   quiet i = leb n (partner at n i)
 
-  pub quiet-more : (i j : ℕ) → j ≡ partner at n i → n ≤ j → all_below i quiet ≡ true → all_below (i + 1) quiet ≡ true
-  quiet-more i j e h p = all_more quiet i p (rw (← e) (le-leb n j h))
+  pub quiet-more : (i : ℕ) (r : Option ℕ) → r ≡ partner_if at n i → ((j : ℕ) → r ≡ Some j → ⊥) → all_below i quiet ≡ true
+      → all_below (i + 1) quiet ≡ true
+  quiet-more i (Some j) e f p = absurd (f j refl)
+  quiet-more i None e f p = all_more quiet i p (le-leb n (partner at n i) (missing i (ltb (partner at n i) n) refl e))
 
-  pub pair_found : (i j : ℕ) → i < n → j ≡ partner at n i → j < n → all_below i quiet ≡ true → Pair i j ≡ clash_of at n
+  pub pair_found : (i j : ℕ) → i < n → Some j ≡ partner_if at n i → all_below i quiet ≡ true → Some (i, j) ≡ clash_of at n
   unfolding clash_of first_clash
-  pair_found i j h e l p =
+  pair_found i j h s p =
+      let (e, l) = there i j (ltb (partner at n i) n) refl s in
       let f : first_below n quiet ≡ i = first-stop quiet n i p h (rw (← e) (lt-leb n j l)) in
       rw (f, lt-ltb i n h, e)
 
-  pub none_found : all_below n quiet ≡ true → Clear ≡ clash_of at n
+  pub none_found : all_below n quiet ≡ true → None ≡ clash_of at n
   unfolding clash_of first_clash
   none_found p =
       let f : first_below n quiet ≡ n = first_done quiet n p in
@@ -108,7 +126,7 @@ module _ (at : ℕ → Pattern) (n : ℕ) where
 
 -- the answer of a table that is there, from the clash that was found in its range
 pub answer : (d : Description) (t first count : ℕ) → first ≡ table_first d t → count ≡ table_end d t - table_first d t
-    → has_table d t ≡ true → (r : Clash) → clash_of (pattern_from d first) count ≡ r → placed first r ≡ clash_in d t
+    → has_table d t ≡ true → (r : Option (ℕ × ℕ)) → clash_of (pattern_from d first) count ≡ r → Ok (placed first r) ≡ clash_in d t
 unfolding clash_in
 answer d t first count f g h r e =
     let p : clash_of (pattern_from d (table_first d t)) (table_end d t - table_first d t) ≡ r = rw (← g, ← f) e in

@@ -1,2 +1,3 @@
 -- The clash check of any bytes.
 pub mod Entry
+pub mod Partner

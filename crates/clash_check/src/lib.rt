@@ -6,20 +6,27 @@ ghost use Rattle.format.specs.Layout.{SectionsInBounds};
 ghost use Rattle.format.specs.Check.{WellFormed};
 ghost use Rattle.format.specs.Description.{description};
 ghost use Rattle.patterns.specs.Relations.{overlap};
-ghost use Rattle.choosing_spec.specs.Clashing.{another, clashing, partner, clash_of};
+ghost use Rattle.choosing_spec.specs.Clashing.{another, clashing, clash_of};
 ghost use Rattle.choosing.specs.Patterns.{patterns_of};
 ghost use Rattle.clash_check.specs.Entry.{clash_in, clash_answer};
+ghost use Rattle.clash_check.specs.Partner.{partner_if};
+ghost use Rattle.clash_check.specs.declared.ClashError.TheVariants.{Malformed};
 
-use choosing_spec::Clash;
-use format::{Checked, Layout, Pattern};
+use format::{Fault, Layout, Pattern};
 use tables::Table;
 
 #[derive(Clone, Copy)]
-pub enum ClashAnswer {
-    Clear,
-    Pair(usize, usize),
-    Malformed { section: usize, record: usize },
+pub enum ClashError {
+    Malformed(Fault),
     NoTable(u32),
+}
+
+impl From<Fault> for ClashError {
+    ghost from_gives = { λ fault error. error ≡ Malformed fault };
+
+    fn from(fault: Fault) -> ClashError {
+        ClashError::Malformed(fault)
+    }
 }
 
 // Whether a record of the table other than i and j has pattern p.
@@ -28,13 +35,11 @@ fn has_third(desc: &[u8], layout: Layout, table: Table, i: usize, j: usize, p: P
     requires count_bound { table.first + table.count ≤ layout.constructors.count }
     ensures { result ≡ another (patterns_of desc.now layout table) table.count i j p }
 {
-    let mut t = 0;
-    while t < table.count {
+    for t in 0..table.count {
         let q = choosing::row(desc, layout, table.first, t);
         if (t != i) & (t != j) & patterns::same(q, p) {
             return true;
         }
-        t += 1;
     }
     false
 }
@@ -63,8 +68,7 @@ fn crosses(
         return false;
     }
     let p = patterns::joined(a, b);
-    let third = has_third(desc, layout, table, i, j, p);
-    !third
+    !has_third(desc, layout, table, i, j, p)
 }
 
 // Whether records i and j, with patterns a and b, clash. Most pairs of a table are apart, so that is tested first.
@@ -89,63 +93,55 @@ fn clashes(
     false
 }
 
-// The first record after i that clashes with it, or the table's count.
-fn partner_of(desc: &[u8], layout: Layout, table: Table, i: usize) -> usize
+// The first record after i that clashes with it.
+fn partner_of(desc: &[u8], layout: Layout, table: Table, i: usize) -> Option<usize>
     requires sections_in_bounds { SectionsInBounds desc.now layout }
     requires count_bound { table.first + table.count ≤ layout.constructors.count }
     requires i_lt_count { i < table.count }
-    ensures { result ≡ partner (patterns_of desc.now layout table) table.count i }
+    ensures { result ≡ partner_if (patterns_of desc.now layout table) table.count i }
 {
     let a = choosing::row(desc, layout, table.first, i);
-    let mut j = i + 1;
-    while j < table.count {
+    for j in i + 1..table.count {
         let b = choosing::row(desc, layout, table.first, j);
         if clashes(desc, layout, table, i, j, a, b) {
-            return j;
+            return Some(j);
         }
-        j += 1;
     }
-    j
+    None
 }
 
-pub fn first_clash(desc: &[u8], layout: Layout, table: Table) -> Clash
+// The first pair of the table's records that clashes.
+pub fn first_clash(desc: &[u8], layout: Layout, table: Table) -> Option<(usize, usize)>
     requires sections_in_bounds { SectionsInBounds desc.now layout }
     requires count_bound { table.first + table.count ≤ layout.constructors.count }
     ensures { result ≡ clash_of (patterns_of desc.now layout table) table.count }
 {
-    let mut i = 0;
-    while i < table.count {
-        let j = partner_of(desc, layout, table, i);
-        if j < table.count {
-            return Clash::Pair(i, j);
+    for i in 0..table.count {
+        if let Some(j) = partner_of(desc, layout, table, i) {
+            return Some((i, j));
         }
-        i += 1;
     }
-    Clash::Clear
+    None
 }
 
-fn clash_in(desc: &[u8], layout: Layout, t: u32) -> ClashAnswer
+fn clash_in(desc: &[u8], layout: Layout, t: u32) -> Result<Option<(usize, usize)>, ClashError>
     requires { WellFormed desc.now layout }
     ensures { result ≡ clash_in (description desc.now layout) t }
 {
     let table = tables::table_of(desc, layout, t);
     if table.count == 0 {
-        return ClashAnswer::NoTable(t);
+        return Err(ClashError::NoTable(t));
     }
-    let found = first_clash(desc, layout, table);
-    match found {
-        Clash::Clear => ClashAnswer::Clear,
-        Clash::Pair(i, j) => ClashAnswer::Pair(table.first + i, table.first + j),
+    match first_clash(desc, layout, table) {
+        Some((i, j)) => Ok(Some((table.first + i, table.first + j))),
+        None => Ok(None),
     }
 }
 
-// Any bytes as the description, any table number.
-pub fn clash(desc: &[u8], t: u32) -> ClashAnswer
+// The pair by its constructors, for any bytes as the description and any table number.
+pub fn clash(desc: &[u8], t: u32) -> Result<Option<(usize, usize)>, ClashError>
     ensures { result ≡ clash_answer desc.now t }
 {
-    let checked = validation::check(desc);
-    match checked {
-        Checked::Good(layout) => clash_in(desc, layout, t),
-        Checked::Fault { section, record } => ClashAnswer::Malformed { section, record },
-    }
+    let layout = validation::check(desc)?;
+    clash_in(desc, layout, t)
 }

@@ -7,6 +7,7 @@ use native.Mathlib.Omega.{arith}
 use lib.Dec.{leb}
 use lib.IntN.{ℤ, pos}
 use lib.ListN.{length, get_or, drop, get_or-append}
+use Rattle.std.proofs.Common.{Result, Ok, Err}
 use Rattle.format.specs.Numbers.{row_numbers}
 use Rattle.format.specs.Description.{Description, description, no_field}
 use Rattle.format.specs.Expression.{no_expression}
@@ -24,11 +25,10 @@ use Rattle.whole_numbers.proofs.Kept.{mag-inside}
 use Rattle.expressions.proofs.Records.{written}
 use Rattle.expressions.proofs.Values.{value-inside}
 use Rattle.acceptance.specs.Acceptance.{acceptance_of, accepting}
-use Rattle.acceptance.specs.declared.Acceptance.{Acceptance}
-use Rattle.acceptance.specs.declared.Acceptance.TheVariants as acceptance
+use Rattle.acceptance.specs.declared.Rejection.{Rejection}
 use Rattle.acceptance.proofs.Facts.{accepted-formed}
 use Rattle.decoding_spec.specs.Tree.{Row, Node, Nodes, rows_of, rows_of_all, numbers_of}
-use Rattle.decoding_spec.specs.Walk.{Result, done, refused}
+use Rattle.decoding_spec.specs.Walk.{Result as WalkResult, done, refused}
 use Rattle.decoding_spec.specs.Instruction.{counts_of, instruction_of}
 use Rattle.decoding_spec.specs.declared.State.{State}
 use Rattle.decoding_theorems.specs.Facts.{Each, Shaped, ShapedAll}
@@ -38,7 +38,7 @@ use Rattle.decoding_theorems.proofs.Records.{field-ok, expression-ok}
 use Rattle.decoding_theorems.proofs.Rows.{each_append}
 use Rattle.decoding_theorems.proofs.Shapes.{shaped}
 use Rattle.decoding.specs.Decoding.{answer_of, buffer_after, decode_of, rows_after}
-use Rattle.decoding.specs.declared.Decoded.TheVariants.{Done, Rejected, NoRoom}
+use Rattle.decoding.specs.declared.DecodeError.TheVariants.{Rejected, NoRoom}
 use Rattle.decoding.proofs.Counts.{Few, few-of}
 use Rattle.decoding.proofs.Numbers.{numbers-length}
 
@@ -125,7 +125,7 @@ number-inside (r ∷ rs) g (suc (suc (suc zero))) h = g.0.last
 number-inside (r ∷ rs) g (suc (suc (suc (suc k)))) h = number-inside rs g.1 k (omega arith)
 
 -- of an accepted description's instruction
-instruction-signed : (b : List ℕ) (l : Layout) → acceptance_of b ≡ acceptance.Accepted l → (c a : ℕ) (s : List ℕ) (n : Node) (size : ℕ) (st : State)
+instruction-signed : (b : List ℕ) (l : Layout) → acceptance_of b ≡ Ok l → (c a : ℕ) (s : List ℕ) (n : Node) (size : ℕ) (st : State)
     → instruction_of (description b l) c a s ≡ done n size st → Each Signed (rows_of n)
 instruction-signed b l e c a s n size st q =
     let d = description b l in
@@ -135,26 +135,26 @@ instruction-signed b l e c a s n size st q =
     table-signed d o (few-of b l f) s a (a + size) i.root [] (shaped d o c a s n size st q) i.values
 
 -- "four signed 64-bit numbers each": all that is written of a done instruction, for any bytes as the description and as the code
-pub rows-signed : (b : List ℕ) (c a : ℕ) (s : List ℕ) (old : List ℤ) (used : ℕ) → decode_of b c a s (length old) ≡ Done used
+pub rows-signed : (b : List ℕ) (c a : ℕ) (s : List ℕ) (old : List ℤ) (used : ℕ) → decode_of b c a s (length old) ≡ Ok used
     → (k : ℕ) → k < row_numbers * used → inside (get_or (rows_after b c a s old) k (pos 0)) ≡ true
 unfolding decode_of rows_after
 rows-signed b c a s old used e k h = go (acceptance_of b) refl e
   where
-    written : (n : Node) (t : Bool) → Each Signed (rows_of n) → cond t (Done (length (rows_of n))) NoRoom ≡ Done used
+    written : (n : Node) (t : Bool) → Each Signed (rows_of n) → cond t (Ok (length (rows_of n))) (Err NoRoom) ≡ Ok used
         → inside (get_or (cond t (numbers_of (rows_of n) ++ drop (row_numbers * length (rows_of n)) old) old) k (pos 0)) ≡ true
     written n true g q =
         let count : length (rows_of n) ≡ used = cc in
         rw (get_or-append (numbers_of (rows_of n)) (drop (row_numbers * length (rows_of n)) old) (pos 0) k (omega (arith, numbers-length (rows_of n))))
         (number-inside (rows_of n) g k (omega arith))
-    written n false g q = let z : ◌≡◌ {A = ℕ} 0 1 = cc in absurd (omega arith)
+    written n false g q = cc
 
-    by : (l : Layout) → acceptance_of b ≡ acceptance.Accepted l → (r : Result Node) → instruction_of (description b l) c a s ≡ r
-        → answer_of (length old) r ≡ Done used → inside (get_or (buffer_after old r) k (pos 0)) ≡ true
+    by : (l : Layout) → acceptance_of b ≡ Ok l → (r : WalkResult Node) → instruction_of (description b l) c a s ≡ r
+        → answer_of (length old) r ≡ Ok used → inside (get_or (buffer_after old r) k (pos 0)) ≡ true
     by l p (done n size st) q w =
         written n (leb (row_numbers * length (rows_of n)) (length old)) (instruction-signed b l p c a s n size st q) w
-    by l p (refused r) q w = let z : ◌≡◌ {A = ℕ} 0 1 = cc in absurd (omega arith)
+    by l p (refused r) q w = cc
 
-    go : (x : Acceptance) → acceptance_of b ≡ x → accepting Rejected (λ d. answer_of (length old) (instruction_of d c a s)) b x ≡ Done used
+    go : (x : Result Layout Rejection) → acceptance_of b ≡ x → accepting (λ x. Err (Rejected x)) (λ d. answer_of (length old) (instruction_of d c a s)) b x ≡ Ok used
         → inside (get_or (accepting (λ x. old) (λ d. buffer_after old (instruction_of d c a s)) b x) k (pos 0)) ≡ true
-    go (acceptance.Accepted l) p q = by l p (instruction_of (description b l) c a s) refl q
-    go (acceptance.Rejected x) p q = let z : ◌≡◌ {A = ℕ} 0 1 = cc in absurd (omega arith)
+    go (Ok l) p q = by l p (instruction_of (description b l) c a s) refl q
+    go (Err x) p q = cc

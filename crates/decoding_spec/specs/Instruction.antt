@@ -1,9 +1,7 @@
 -- The instruction at an address: the walk's tree with the values of its computed operands, which need the root's length.
-use Rattle.std.specs.Prelude.{ℕ, ◌+◌, ◌-◌, List, [], ◌∷◌, ℤ, pos, get_or}
+use Rattle.std.specs.Prelude.{ℕ, ◌+◌, ◌-◌, List, [], ◌∷◌, ℤ, pos, get_or, Option, Some, None}
 use Rattle.format.specs.Description.{Description, no_field}
 use Rattle.format.specs.Expression.{no_expression}
-use Rattle.whole_numbers.specs.declared.Whole.{Whole}
-use Rattle.whole_numbers.specs.declared.Whole.TheVariants as whole
 use Rattle.expressions.specs.Value.{given, value_of}
 use Rattle.decoding_spec.specs.Tree.{Node, Nodes, built, numbered, named, computed, none, more}
 use Rattle.decoding_spec.specs.Walk.{Result, done, refused, and_then, walked_of}
@@ -19,9 +17,9 @@ abbrev pub where_inside : {A B : Type 0} → Valued A → (A → Valued B) → V
 where_inside (valued a) rest = rest a
 where_inside (outside p) rest = outside p
 
-abbrev pub computed_as : ℕ → ℕ → Whole → Valued Node
-computed_as i s (whole.Value v) = valued (computed i s v)
-computed_as i s whole.Outside = outside s
+abbrev pub computed_as : ℕ → ℕ → Option ℤ → Valued Node
+computed_as i s (Some v) = valued (computed i s v)
+computed_as i s None = outside s
 
 module _ (d : Description) where
   -- "A field counts as its row's value, a name field as its bits"; no other operand is named
@@ -38,7 +36,7 @@ module _ (d : Description) where
   -- the instruction's address, and "the address after it"
   module _ (here after : ℕ) where
     -- what expression i comes to, where its user's operands count as these
-    abbrev pub expression_value : List ℤ → ℕ → Whole
+    abbrev pub expression_value : List ℤ → ℕ → Option ℤ
     expression_value operands i = value_of (given operands here after) (get_or d.expressions i no_expression)
 
     -- a part of a constructor whose operands count as these, with its values: "first in walk order"

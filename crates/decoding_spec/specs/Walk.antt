@@ -1,6 +1,7 @@
 -- The walk: "starts at byte 0 of the input with the root", goes from a constructor to its operands, and ends with the tree or with
 -- the first refusal in its order.
-use Rattle.std.specs.Prelude.{ℕ, zero, suc, ◌+◌, max, Bool, cond, ◌||◌, List, leb, ltb, eqb, pos, length, get_or, drop, set, replicate}
+use Rattle.std.specs.Prelude.{ℕ, zero, suc, ◌+◌, max, Bool, cond, ◌||◌, List, leb, ltb, eqb, pos, length, get_or, drop, set, replicate, Ok, Err}
+use Rattle.std.specs.Prelude as std
 use Rattle.format.specs.Numbers.{longest, operands_each, most_rows}
 use Rattle.format.specs.Description.{Description, no_field, no_name, no_constructor, no_operand}
 use Rattle.format.specs.Rules.{bits_of}
@@ -8,8 +9,8 @@ use Rattle.format.specs.Tables.{root_of, table_first}
 use Rattle.format.specs.declared.Field.{Field}
 use Rattle.format.specs.declared.Constructor.{Constructor}
 use Rattle.format.specs.declared.Operand.{Operand}
-use Rattle.choosing_spec.specs.declared.Choice.{Choice}
-use Rattle.choosing_spec.specs.declared.Choice.TheVariants as choice
+use Rattle.choosing_spec.specs.declared.NotChosen.{NotChosen}
+use Rattle.choosing_spec.specs.declared.NotChosen.TheVariants as choice
 use Rattle.choosing_spec.specs.Table.{choose_in}
 use Rattle.fields.specs.Value.{value_of}
 use Rattle.fields.specs.Look.{look_of, number_of}
@@ -44,13 +45,11 @@ abbrev pub width_of : Field → ℕ
 width_of f = cond (eqb f.source 0) f.width 0
 
 -- choosing in table t, by record numbers of section 3
-abbrev pub numbered_from : ℕ → Choice → Choice
-numbered_from first choice.Short = choice.Short
-numbered_from first choice.NoMatch = choice.NoMatch
-numbered_from first (choice.Taken j) = choice.Taken (first + j)
-numbered_from first choice.Ambiguous = choice.Ambiguous
+abbrev pub numbered_from : ℕ → std.Result ℕ NotChosen → std.Result ℕ NotChosen
+numbered_from first (Ok j) = Ok (first + j)
+numbered_from first (Err why) = Err why
 
-unfoldable pub choice_in : Description → ℕ → List ℕ → ℕ → Choice
+unfoldable pub choice_in : Description → ℕ → List ℕ → ℕ → std.Result ℕ NotChosen
 choice_in d t s c = numbered_from (table_first d t) (choose_in d t s c)
 
 -- field i at place p, by its look: "1, field, start, value", or "2, field, start, name number (first name plus value)" and "hole:
@@ -126,11 +125,11 @@ module _ (g : Setting) where
       closing n k.minimum at
       (operands_from w k.operands.first s at k.operands.count 0 (replicate (operands_each + 1) 0) 0 (counted st))
 
-  abbrev pub taking : Walker → ℕ → List ℕ → ℕ → State → Choice → Result Node
-  taking w t s at st choice.Short = refused (Short at)
-  taking w t s at st choice.NoMatch = refused (NoMatch at t)
-  taking w t s at st (choice.Taken n) = constructor_from w n (get_or g.description.constructors n no_constructor) s at st
-  taking w t s at st choice.Ambiguous = refused (Ambiguous at t)
+  abbrev pub taking : Walker → ℕ → List ℕ → ℕ → State → std.Result ℕ NotChosen → Result Node
+  taking w t s at st (Err choice.Short) = refused (Short at)
+  taking w t s at st (Err choice.NoMatch) = refused (NoMatch at t)
+  taking w t s at st (Ok n) = constructor_from w n (get_or g.description.constructors n no_constructor) s at st
+  taking w t s at st (Err choice.Ambiguous) = refused (Ambiguous at t)
 
   -- "At a constructor: 7, 6, 2, 3, 4"
   unfoldable pub table_from : Walker → Walker

@@ -27,65 +27,51 @@ pub struct State {
     pub taken: usize,
 }
 
-// The answer's number.
-pub fn refusal_number(refusal: Refusal) -> u8
-    ensures { result ≡ refusal_number refusal }
-{
-    match refusal {
-        Refusal::Short(_) => 2,
-        Refusal::NoMatch { place: _, table: _ } => 3,
-        Refusal::Ambiguous { place: _, table: _ } => 4,
-        Refusal::Hole(_) => 5,
-        Refusal::TooFar(_) => 6,
-        Refusal::TooManyRows => 7,
-        Refusal::RootLengthZero => 8,
-        Refusal::ValueOutside(_) => 13,
+impl Refusal {
+    // The answer's number.
+    pub fn number(self) -> u8
+        ensures { result ≡ refusal_number self }
+    {
+        match self {
+            Refusal::Short(_) => 2,
+            Refusal::NoMatch { .. } => 3,
+            Refusal::Ambiguous { .. } => 4,
+            Refusal::Hole(_) => 5,
+            Refusal::TooFar(_) => 6,
+            Refusal::TooManyRows => 7,
+            Refusal::RootLengthZero => 8,
+            Refusal::ValueOutside(_) => 13,
+        }
     }
-}
 
-// Its first value.
-pub fn refusal_place(refusal: Refusal) -> usize
-    ensures { result ≡ refusal_place refusal }
-{
-    match refusal {
-        Refusal::Short(place) => place as usize,
-        Refusal::NoMatch { place, table: _ } => place as usize,
-        Refusal::Ambiguous { place, table: _ } => place as usize,
-        Refusal::Hole(place) => place as usize,
-        Refusal::TooFar(place) => place as usize,
-        Refusal::TooManyRows => 0,
-        Refusal::RootLengthZero => 0,
-        Refusal::ValueOutside(place) => place as usize,
+    // Its first value.
+    pub fn place(self) -> usize
+        ensures { result ≡ refusal_place self }
+    {
+        match self {
+            Refusal::Short(place)
+            | Refusal::NoMatch { place, .. }
+            | Refusal::Ambiguous { place, .. }
+            | Refusal::Hole(place)
+            | Refusal::TooFar(place)
+            | Refusal::ValueOutside(place) => usize::from(place),
+            Refusal::TooManyRows | Refusal::RootLengthZero => 0,
+        }
     }
-}
 
-// Its second value.
-pub fn refusal_table(refusal: Refusal) -> u8
-    ensures { result ≡ refusal_table refusal }
-{
-    match refusal {
-        Refusal::NoMatch { place: _, table } => table,
-        Refusal::Ambiguous { place: _, table } => table,
-        Refusal::Short(_) => 0,
-        Refusal::Hole(_) => 0,
-        Refusal::TooFar(_) => 0,
-        Refusal::TooManyRows => 0,
-        Refusal::RootLengthZero => 0,
-        Refusal::ValueOutside(_) => 0,
+    // Its second value.
+    pub fn table(self) -> u8
+        ensures { result ≡ refusal_table self }
+    {
+        match self {
+            Refusal::NoMatch { table, .. } | Refusal::Ambiguous { table, .. } => table,
+            _ => 0,
+        }
     }
-}
 
-pub fn is_short(refusal: Refusal) -> bool
-    ensures { result ≡ is_short refusal }
-{
-    match refusal {
-        Refusal::Short(_) => true,
-        Refusal::NoMatch { place: _, table: _ } => false,
-        Refusal::Ambiguous { place: _, table: _ } => false,
-        Refusal::Hole(_) => false,
-        Refusal::TooFar(_) => false,
-        Refusal::TooManyRows => false,
-        Refusal::RootLengthZero => false,
-        Refusal::ValueOutside(_) => false,
+    pub fn is_short(self) -> bool
+        ensures { result ≡ is_short self }
+    {
+        matches!(self, Refusal::Short(_))
     }
 }

@@ -10,7 +10,7 @@ use Rattle.format.specs.Tables.{table_first}
 use Rattle.format.specs.declared.Constructor.{Constructor}
 use Rattle.format.specs.declared.Operand.{Operand}
 use Rattle.format.proofs.Formation.{RulesHold}
-use Rattle.choosing_spec.specs.declared.Choice.TheVariants.{Taken}
+use Rattle.std.specs.Prelude.{Ok}
 use Rattle.choosing_spec.specs.Records.{TakenIn, NoneIn}
 use Rattle.choosing.proofs.Records.{taken_in, none_in}
 use Rattle.decoding_spec.specs.Tree.{Node, Nodes, rows_of, rows_of_all}
@@ -31,7 +31,7 @@ context st = st.context
 
 module _ (d : Description) (o : RulesHold d) (c : ℕ) (input : List ℕ) where
   -- constructor k is what table t takes at a place
-  inmost : (t at k : ℕ) (st : State) → st.context ≡ c → choice_in d t (drop at input) st.context ≡ Taken k → TakenIn d t (drop at input) c k
+  inmost : (t at k : ℕ) (st : State) → st.context ≡ c → choice_in d t (drop at input) st.context ≡ Ok k → TakenIn d t (drop at input) c k
   inmost t at k st h e =
       let w = takes d st.context t (drop at input) o k e in
       let same : table_first d t + (k - table_first d t) ≡ k = omega (arith, w.from) in
@@ -68,4 +68,4 @@ module _ (d : Description) (o : RulesHold d) (c : ℕ) (input : List ℕ) where
   pub none-there : (a p t : ℕ) → instruction_of d c a input ≡ refused (NoMatch p t) → NoneIn d t (drop p input) c
   none-there a p t e =
       none_in d o t (drop p input) c
-      (none-taken d c t (drop p input) (choice-refused d c input (NoMatch p t) (refused-walked d c a input (NoMatch p t) (λ q z. let w : ◌≡◌ {A = ℕ} 0 1 = cc in omega arith) e)))
+      (none-taken d c t (drop p input) (choice-refused d c input (NoMatch p t) (refused-walked d c a input (NoMatch p t) (λ q z. cc) e)))

@@ -16,8 +16,10 @@ use Rattle.fields.specs.Value.{value_of}
 use Rattle.fields.specs.Look.{look_of}
 use Rattle.fields.specs.declared.Look.{Look}
 use Rattle.fields.specs.declared.Look.TheVariants as look
-use Rattle.choosing_spec.specs.declared.Choice.{Choice}
-use Rattle.choosing_spec.specs.declared.Choice.TheVariants as choice
+use Rattle.std.specs.Prelude.{Ok, Err}
+use Rattle.std.specs.Prelude as std
+use Rattle.choosing_spec.specs.declared.NotChosen.{NotChosen}
+use Rattle.choosing_spec.specs.declared.NotChosen.TheVariants as choice
 use Rattle.decoding_spec.specs.State.{Setting, starting, counted}
 use Rattle.decoding_spec.specs.Tree.{Node, Nodes, more}
 use Rattle.decoding_spec.specs.Walk.{Result, done, refused, Walker, and_then, full, width_of, choice_in, shown_as, start_of, closed, field_from, computed_from, operand_from, operands_from, constructor_from, taking, table_from, walk_from, reject_empty, walked_from}
@@ -93,11 +95,11 @@ module _ (g : Setting) where
         test (Since st.used) (ltb longest at) (TooFar at) _ λ b.
         go (choice_in g.description t s st.context)
       where
-        go : (q : Choice) → Done (Since st.used) (taking g w t s at st q)
-        go choice.Short = tt
-        go choice.NoMatch = tt
-        go choice.Ambiguous = tt
-        go (choice.Taken n) =
+        go : (q : std.Result ℕ NotChosen) → Done (Since st.used) (taking g w t s at st q)
+        go (Err choice.Short) = tt
+        go (Err choice.NoMatch) = tt
+        go (Err choice.Ambiguous) = tt
+        go (Ok n) =
             let k = get_or g.description.constructors n no_constructor in
             then (Since st.used) (Since st.used)
             (operands_from g w k.operands.first s at k.operands.count 0 (replicate (operands_each + 1) 0) 0 (counted st)) _
@@ -142,11 +144,11 @@ module _ (g : Setting) where
     table_same t s at st h =
         test-same (full st) TooManyRows _ _ (test-same (ltb longest at) (TooFar at) _ _ (go (choice_in g.description t s st.context)))
       where
-        go : (q : Choice) → taking g w' t s at st q ≡ taking g w t s at st q
-        go choice.Short = refl
-        go choice.NoMatch = refl
-        go choice.Ambiguous = refl
-        go (choice.Taken n) =
+        go : (q : std.Result ℕ NotChosen) → taking g w' t s at st q ≡ taking g w t s at st q
+        go (Err choice.Short) = refl
+        go (Err choice.NoMatch) = refl
+        go (Err choice.Ambiguous) = refl
+        go (Ok n) =
             let k = get_or g.description.constructors n no_constructor in
             ap (λ (r : Result Nodes). and_then r (λ f far st. closed g n at f (max k.minimum far) st))
             (operands_same k.operands.first s at k.operands.count 0 (replicate (operands_each + 1) 0) 0 (counted st) h)

@@ -2,15 +2,13 @@
 use Prim.Native.Nat.{ℕ, ◌+◌, ◌≤◌}
 use mathlib.Core.List.{List, [], ◌++◌}
 use mathlib.Core.Path.{◌≡◌, refl, sym, ap, subst}
-use native.Mathlib.Omega.{arith}
 use lib.IntN.{ℤ}
 use Rattle.format.specs.Description.{Description}
 use Rattle.format.specs.Tables.{root_of}
 use Rattle.format.specs.declared.Constructor.{Constructor}
 use Rattle.format.specs.declared.Operand.{Operand}
 use Rattle.format.proofs.Formation.{RulesHold}
-use Rattle.whole_numbers.specs.declared.Whole.{Whole}
-use Rattle.whole_numbers.specs.declared.Whole.TheVariants as whole
+use Rattle.std.specs.Prelude.{Option, Some, None}
 use Rattle.decoding_spec.specs.State.{starting}
 use Rattle.decoding_spec.specs.Tree.{Node, Nodes, built, numbered, named, computed, none, more}
 use Rattle.decoding_spec.specs.Walk.{Result, done, refused, walked_of}
@@ -30,17 +28,17 @@ record Inside {A B : Type 0} (r : Valued A) (rest : A → Valued B) (b : B) : Ty
 
 split : {A B : Type 0} (r : Valued A) (rest : A → Valued B) (b : B) → where_inside r rest ≡ valued b → Inside r rest b
 split (valued a) rest b e = record { it = a; is = refl; then = e }
-split (outside p) rest b e = let z : ◌≡◌ {A = ℕ} 0 1 = cc in absurd (omega arith)
+split (outside p) rest b e = cc
 
 -- a computed operand that has its value
-record Computed (i s : ℕ) (w : Whole) (n : Node) : Type 0 where
+record Computed (i s : ℕ) (w : Option ℤ) (n : Node) : Type 0 where
   value : ℤ
-  is : w ≡ whole.Value value
+  is : w ≡ Some value
   node : computed i s value ≡ n
 
-computed-is : (i s : ℕ) (w : Whole) (n : Node) → computed_as i s w ≡ valued n → Computed i s w n
-computed-is i s (whole.Value v) n e = record { value = v; is = refl; node = cc }
-computed-is i s whole.Outside n e = let z : ◌≡◌ {A = ℕ} 0 1 = cc in absurd (omega arith)
+computed-is : (i s : ℕ) (w : Option ℤ) (n : Node) → computed_as i s w ≡ valued n → Computed i s w n
+computed-is i s (Some v) n e = record { value = v; is = refl; node = cc }
+computed-is i s None n e = cc
 
 module _ (d : Description) (here after : ℕ) where
   -- a part counts as much with its values as without
@@ -130,8 +128,8 @@ completed-done d here (done b m st') n l st e = go (with_values d here (here + m
         let m-is : m ≡ l = cc in
         let st-is : st' ≡ st = cc in
         record { bare = b; is = cc; values = rw (← m-is, ← x-is) p }
-    go (outside y) p q = let z : ◌≡◌ {A = ℕ} 0 1 = cc in absurd (omega arith)
-completed-done d here (refused x) n l st e = let z : ◌≡◌ {A = ℕ} 0 1 = cc in absurd (omega arith)
+    go (outside y) p q = cc
+completed-done d here (refused x) n l st e = cc
 
 -- the tree of a done instruction at an address, of this length, with the state behind it
 pub record Instruction (d : Description) (c here : ℕ) (s : List ℕ) (n : Node) (l : ℕ) (st : State) : Type 0 where
@@ -156,7 +154,7 @@ unfolding completed
 completed-refused d here (done b m st') x h e = go (with_values d here (here + m) [] b) e
   where
     go : (v : Valued Node) → ended m st' v ≡ refused x → done b m st' ≡ refused x
-    go (valued n) q = let z : ◌≡◌ {A = ℕ} 0 1 = cc in absurd (omega arith)
+    go (valued n) q = cc
     go (outside p) q = absurd (h p cc)
 completed-refused d here (refused y) x h e = e
 

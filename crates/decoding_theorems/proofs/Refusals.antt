@@ -21,8 +21,10 @@ use Rattle.fields.specs.Look.{look_of}
 use Rattle.fields.specs.declared.Look.{Look}
 use Rattle.fields.specs.declared.Look.TheVariants as look
 use Rattle.choosing_spec.specs.Choosing.{matching}
-use Rattle.choosing_spec.specs.declared.Choice.{Choice}
-use Rattle.choosing_spec.specs.declared.Choice.TheVariants as choice
+use Rattle.std.specs.Prelude.{Ok, Err}
+use Rattle.std.specs.Prelude as std
+use Rattle.choosing_spec.specs.declared.NotChosen.{NotChosen}
+use Rattle.choosing_spec.specs.declared.NotChosen.TheVariants as choice
 use Rattle.choosing_spec.specs.Table.{pattern_from}
 use Rattle.choosing_theorems.proofs.Taken as choosing
 use Rattle.decoding_spec.specs.State.{Setting, starting, counted, setting_of}
@@ -96,13 +98,13 @@ module _ (d : Description) (c : ℕ) (input : List ℕ) where
           (operands first s at left (o + 1) (set ends (o + 1) (start_of ends x + l)) (max far (start_of ends x + l)) st p h)
           (λ f far st h. h))
 
-      taken : (t : ℕ) (s : List ℕ) (at : ℕ) (st : State) → s ≡ drop at input → st.context ≡ c → (q : Choice) → choice_in d t s c ≡ q
+      taken : (t : ℕ) (s : List ℕ) (at : ℕ) (st : State) → s ≡ drop at input → st.context ≡ c → (q : std.Result ℕ NotChosen) → choice_in d t s c ≡ q
           → Explained (taking g w t s at st q)
       unfolding constructor_from closed
-      taken t s at st p h choice.Short e = tt
-      taken t s at st p h choice.NoMatch e = rw p at e
-      taken t s at st p h choice.Ambiguous e = rw p at e
-      taken t s at st p h (choice.Taken n) e =
+      taken t s at st p h (Err choice.Short) e = tt
+      taken t s at st p h (Err choice.NoMatch) e = rw p at e
+      taken t s at st p h (Err choice.Ambiguous) e = rw p at e
+      taken t s at st p h (Ok n) e =
           let k = get_or g.description.constructors n no_constructor in
           and-then (operands_from g w k.operands.first s at k.operands.count 0 (replicate (operands_each + 1) 0) 0 (counted st)) _
           (operands k.operands.first s at k.operands.count 0 (replicate (operands_each + 1) 0) 0 (counted st) p h)

@@ -18,8 +18,10 @@ use Rattle.fields.specs.Value.{value_of}
 use Rattle.fields.specs.Look.{look_of, number_of}
 use Rattle.fields.specs.declared.Look.{Look}
 use Rattle.fields.specs.declared.Look.TheVariants as look
-use Rattle.choosing_spec.specs.declared.Choice.{Choice}
-use Rattle.choosing_spec.specs.declared.Choice.TheVariants as choice
+use Rattle.std.specs.Prelude.{Ok, Err}
+use Rattle.std.specs.Prelude as std
+use Rattle.choosing_spec.specs.declared.NotChosen.{NotChosen}
+use Rattle.choosing_spec.specs.declared.NotChosen.TheVariants as choice
 use Rattle.decoding_spec.specs.State.{Setting, starting, counted, setting_of}
 use Rattle.decoding_spec.specs.Tree.{Node}
 use Rattle.decoding_spec.specs.Walk.{Result, done, refused, Walker, and_then, full, width_of, choice_in, shown_as, start_of, closed, field_from, computed_from, operand_from, operands_from, constructor_from, taking, table_from, walk_from, walked_from, walked_of}
@@ -136,11 +138,11 @@ module _ (d : Description) (input : List ℕ) where
         test (TableWalk d input t at st) (ltb longest at) (TooFar at) _ λ near.
         go (leb-false most_rows st.used room) (choice_in d t s st.context) refl
       where
-        go : st.used < most_rows → (q : Choice) → choice_in d t s st.context ≡ q → Done (TableWalk d input t at st) (taking g w t s at st q)
-        go room choice.Short q = tt
-        go room choice.NoMatch q = tt
-        go room choice.Ambiguous q = tt
-        go room (choice.Taken n) q =
+        go : st.used < most_rows → (q : std.Result ℕ NotChosen) → choice_in d t s st.context ≡ q → Done (TableWalk d input t at st) (taking g w t s at st q)
+        go room (Err choice.Short) q = tt
+        go room (Err choice.NoMatch) q = tt
+        go room (Err choice.Ambiguous) q = tt
+        go room (Ok n) q =
             let k = constructor_of d input n in
             then (OperandsWalk d input k at k.operands.count 0 (replicate (operands_each + 1) 0) 0 (counted st)) (TableWalk d input t at st)
             (operands_from g w k.operands.first s at k.operands.count 0 (replicate (operands_each + 1) 0) 0 (counted st)) _

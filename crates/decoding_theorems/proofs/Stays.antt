@@ -17,8 +17,10 @@ use Rattle.format.proofs.Formation.{RulesHold}
 use Rattle.fields.specs.Value.{Readable}
 use Rattle.fields.specs.Look.{look_of}
 use Rattle.fields.proofs.Values.{value_stays, readable}
-use Rattle.choosing_spec.specs.declared.Choice.{Choice}
-use Rattle.choosing_spec.specs.declared.Choice.TheVariants as choice
+use Rattle.std.specs.Prelude.{Ok, Err}
+use Rattle.std.specs.Prelude as std
+use Rattle.choosing_spec.specs.declared.NotChosen.{NotChosen}
+use Rattle.choosing_spec.specs.declared.NotChosen.TheVariants as choice
 use Rattle.choosing_theorems.proofs.Stays as choosing
 use Rattle.decoding_spec.specs.State.{Setting, starting, counted, setting_of}
 use Rattle.decoding_spec.specs.Tree.{Node, Nodes}
@@ -35,7 +37,7 @@ abbrev Whole : {A : Type 0} → Result A → Type 0
 Whole r = (p : ℕ) → r ≡ refused (Short p) → ⊥
 
 done-whole : {A : Type 0} (a : A) (l : ℕ) (st : State) → Whole (done a l st)
-done-whole a l st p e = let z : ◌≡◌ {A = ℕ} 0 1 = cc in omega arith
+done-whole a l st p e = cc
 
 -- a part past the end is empty, and so much less of what follows is left
 drop_more : (n : ℕ) (s m : List ℕ) → drop n (s ++ m) ≡ drop n s ++ drop (n - length s) m
@@ -157,15 +159,15 @@ module _ (d : Description) (o : RulesHold d) (total total' : ℕ) (grows : total
         (λ f far st. closed-stays n at f (max k.minimum far) st)
         h
 
-    taking-stays : (t : ℕ) (s m : List ℕ) (at : ℕ) (st : State) → length s ≡ total - at → (q : Choice) → choice_in d t s st.context ≡ q
+    taking-stays : (t : ℕ) (s m : List ℕ) (at : ℕ) (st : State) → length s ≡ total - at → (q : std.Result ℕ NotChosen) → choice_in d t s st.context ≡ q
         → Whole (taking g w t s at st q) → taking g' w' t (s ++ m) at st q ≡ taking g w t s at st q
-    taking-stays t s m at st l choice.Short e h = refl
-    taking-stays t s m at st l choice.NoMatch e h = refl
-    taking-stays t s m at st l choice.Ambiguous e h = refl
-    taking-stays t s m at st l (choice.Taken n) e h =
+    taking-stays t s m at st l (Err choice.Short) e h = refl
+    taking-stays t s m at st l (Err choice.NoMatch) e h = refl
+    taking-stays t s m at st l (Err choice.Ambiguous) e h = refl
+    taking-stays t s m at st l (Ok n) e h =
         constructor-stays n (get_or d.constructors n no_constructor) s m at st (usable d o n (takes d st.context t s o n e).within) l h
 
-    choice-stays : (t : ℕ) (s m : List ℕ) (c : ℕ) → (choice_in d t s c ≡ choice.Short → ⊥) → choice_in d t (s ++ m) c ≡ choice_in d t s c
+    choice-stays : (t : ℕ) (s m : List ℕ) (c : ℕ) → (choice_in d t s c ≡ (Err choice.Short) → ⊥) → choice_in d t (s ++ m) c ≡ choice_in d t s c
     unfolding choice_in
     choice-stays t s m c h = ap (numbered_from (table_first d t)) (choosing.stays _ _ s m c (λ e. h (ap (numbered_from (table_first d t)) e)))
 

@@ -1,10 +1,10 @@
 -- What the theorems say of a decoded instruction.
-use Rattle.std.specs.Prelude.{ℕ, ◌+◌, ◌≤◌, ◌<◌, true, cond, List, [], ◌∷◌, ◌≡◌, eqb, nat_abs, length, get_or, drop}
+use Rattle.std.specs.Prelude.{ℕ, ◌+◌, ◌≤◌, ◌<◌, true, cond, List, [], ◌∷◌, ◌≡◌, eqb, nat_abs, length, get_or, drop, Err}
 use Rattle.format.specs.Numbers.{longest, most_rows, operands_each}
 use Rattle.format.specs.Expression.{no_expression, names_only}
 use Rattle.expressions.specs.Value as expression
 use Rattle.format.specs.Description.{Description, no_field, no_constructor}
-use Rattle.choosing_spec.specs.declared.Choice.TheVariants as choice
+use Rattle.choosing_spec.specs.declared.NotChosen.TheVariants as choice
 use Rattle.decoding_spec.specs.Tree.{Row, Node, Nodes, built, numbered, named, computed, none, more, rows_of}
 use Rattle.decoding_spec.specs.Walk.{width_of, choice_in}
 use Rattle.decoding_spec.specs.declared.Refusal.{Refusal}
@@ -17,8 +17,8 @@ Each P (r ∷ rs) = P r × Each P rs
 
 -- answers 3 and 4 are what choosing says in the table that they name, for the input's bytes from their place on
 abbrev pub ChoiceRefused : Description → ℕ → List ℕ → Refusal → Type 0
-ChoiceRefused d c s (NoMatch p t) = choice_in d t (drop p s) c ≡ choice.NoMatch
-ChoiceRefused d c s (Ambiguous p t) = choice_in d t (drop p s) c ≡ choice.Ambiguous
+ChoiceRefused d c s (NoMatch p t) = choice_in d t (drop p s) c ≡ Err choice.NoMatch
+ChoiceRefused d c s (Ambiguous p t) = choice_in d t (drop p s) c ≡ Err choice.Ambiguous
 ChoiceRefused d c s (Short p) = Unit {0}
 ChoiceRefused d c s (Hole p) = Unit {0}
 ChoiceRefused d c s (TooFar p) = Unit {0}

@@ -1,20 +1,19 @@
 -- A walk over the named constructors: what each node of a decoded tree has to do with the description and the input, place by place.
-use Rattle.std.specs.Prelude.{ℕ, zero, suc, ◌+◌, ◌≤◌, ◌<◌, max, List, Bool, ◌≡◌, ℤ, length, get_or, drop, set, replicate}
+use Rattle.std.specs.Prelude.{ℕ, zero, suc, ◌+◌, ◌≤◌, ◌<◌, max, List, Bool, ◌≡◌, ℤ, length, get_or, drop, set, replicate, Ok, Some}
 use Rattle.format.specs.Numbers.{longest, most_rows, operands_each}
 use Rattle.format.specs.Description.{Description, no_field, no_name, no_constructor}
 use Rattle.format.specs.Rules.{bits_of, operand_of}
 use Rattle.format.specs.declared.Field.{Field}
 use Rattle.format.specs.declared.Constructor.{Constructor}
 use Rattle.format.specs.declared.Operand.{Operand}
-use Rattle.choosing_spec.specs.declared.Choice.TheVariants.{Taken}
 use Rattle.fields.specs.Value.{value_of}
 use Rattle.fields.specs.Look.{look_of, number_of}
 use Rattle.fields.specs.declared.Look.TheVariants as look
+use Rattle.printing.specs.declared.Base.{Base}
 use Rattle.decoding_spec.specs.State.{counted, closed_by}
 use Rattle.decoding_spec.specs.Tree.{Node, Nodes, built, numbered, named, computed, none, more}
 use Rattle.decoding_spec.specs.Walk.{width_of, start_of, choice_in}
 use Rattle.decoding_spec.specs.Instruction.{counts_of, expression_value}
-use Rattle.whole_numbers.specs.declared.Whole.TheVariants as whole
 use Rattle.decoding_spec.specs.declared.State.{State}
 
 -- a part of so many bytes from place `at` on: there is a row for it, and its bytes are in the input and not too far
@@ -38,7 +37,7 @@ module _ (d : Description) (input : List ℕ) where
   -- the state behind it is that behind its operands
   pub record ConstructorAt (t at : ℕ) (st : State) (k l far : ℕ) (st' st'' : State) : Type 0 where
     pub fits : Fits input at st l
-    pub chosen : choice_in d t (drop at input) st.context ≡ Taken k
+    pub chosen : choice_in d t (drop at input) st.context ≡ Ok k
     pub size : l ≡ max (constructor_of k).minimum far
     pub state : st'' ≡ closed_by k st'
 
@@ -53,7 +52,7 @@ module _ (d : Description) (input : List ℕ) where
   -- shown as the number v
   pub record NumberAt (at : ℕ) (st : State) (i : ℕ) (v : ℤ) : Type 0 where
     pub signed : Bool
-    pub base : ℕ
+    pub base : Base
     pub look : look_of (field_of i).look ≡ look.Number signed base
     pub value : v ≡ number_of signed (bits_of (field_of i)) (value_at i at st)
 
@@ -103,7 +102,7 @@ module _ (d : Description) (here after : ℕ) where
     HasValues operands (built k s l f) = HasValuesAll (counts_of d f) f
     HasValues operands (numbered i s v) = Unit {0}
     HasValues operands (named i s n) = Unit {0}
-    HasValues operands (computed i s v) = expression_value d here after operands i ≡ whole.Value v
+    HasValues operands (computed i s v) = expression_value d here after operands i ≡ Some v
 
     pub HasValuesAll : List ℤ → Nodes → Type 0
     HasValuesAll operands none = Unit {0}

@@ -19,29 +19,29 @@ ghost use Rattle.text_decoding.specs.TextDecoding.{decode_text_of, text_after};
 ghost use Rattle.sweep.specs.Sweep as sweeping;
 ghost use Rattle.sweep.specs.Sweep.{end_number, sweep_of, buffer_after};
 ghost use Rattle.listing_text.specs.Listing as listing;
-ghost use Rattle.listing_text.specs.Listing.{flag, list_of, list_after};
+ghost use Rattle.listing_text.specs.Listing.{list_of, list_after};
 
-use acceptance::{Acceptance, Rejection};
-use clash_check::ClashAnswer;
-use decoding::Decoded;
+use acceptance::Rejection;
+use clash_check::ClashError;
+use decoding::DecodeError;
 use decoding_spec::Refusal;
-use listing_text::Listed;
-use sweep::{End, Swept};
-use table_query::Asked;
-use text_decoding::Texted;
-use tree_building::Built;
-use tree_check::Answer;
+use listing_text::ListError;
+use sweep::{End, SweepError};
+use table_query::AskError;
+use text_decoding::TextError;
+use tree_building::BuildError;
+use tree_check::TreeError;
 
 // A rejection's number and values.
 fn reject(rejection: Rejection, values: &mut [u64; 4]) -> u32
     ensures value { result ≡ rejection_number rejection }
     ensures values_after { values.new ≡ rejection_values rejection }
 {
-    let first = acceptance::first_value(rejection);
-    let second = acceptance::second_value(rejection);
-    let third = acceptance::third_value(rejection);
+    let first = rejection.first_value();
+    let second = rejection.second_value();
+    let third = rejection.third_value();
     *values = [first as u64, second as u64, third as u64, 0];
-    acceptance::number_of(rejection) as u32
+    u32::from(rejection.answer_number())
 }
 
 // A refusal's number and values.
@@ -49,10 +49,10 @@ fn refuse(refusal: Refusal, values: &mut [u64; 4]) -> u32
     ensures value { result ≡ refusal_number refusal }
     ensures values_after { values.new ≡ refusal_values refusal }
 {
-    let place = decoding_spec::refusal_place(refusal);
-    let table = decoding_spec::refusal_table(refusal);
-    *values = [place as u64, table as u64, 0, 0];
-    decoding_spec::refusal_number(refusal) as u32
+    let place = refusal.place();
+    let table = refusal.table();
+    *values = [place as u64, u64::from(table), 0, 0];
+    u32::from(refusal.number())
 }
 
 #[unsafe(no_mangle)]
@@ -60,13 +60,12 @@ pub extern "C" fn dookerand_check(desc: &[u8], values: &mut [u64; 4]) -> u32
     ensures value { result ≡ acceptance.number_of (acceptance_of desc.now) }
     ensures values_after { values.new ≡ acceptance.values_of (acceptance_of desc.now) }
 {
-    let acceptance = acceptance::accept(desc);
-    match acceptance {
-        Acceptance::Accepted(_) => {
+    match acceptance::accept(desc) {
+        Ok(_) => {
             *values = [0, 0, 0, 0];
             0
         }
-        Acceptance::Rejected(rejection) => reject(rejection, values),
+        Err(rejection) => reject(rejection, values),
     }
 }
 
@@ -81,30 +80,26 @@ pub extern "C" fn dookerand_ask(
     ensures value { result ≡ asking.number_of (ask_of desc.now table context code.now) }
     ensures values_after { values.new ≡ asking.values_of (ask_of desc.now table context code.now) }
 {
-    let asked = table_query::ask(desc, table, context, code);
-    match asked {
-        Asked::Done {
-            constructor,
-            weight,
-        } => {
-            *values = [constructor as u64, weight as u64, 0, 0];
+    match table_query::ask(desc, table, context, code) {
+        Ok(asked) => {
+            *values = [asked.constructor as u64, u64::from(asked.weight), 0, 0];
             0
         }
-        Asked::Rejected(rejection) => reject(rejection, values),
-        Asked::NoTable(t) => {
-            *values = [t as u64, 0, 0, 0];
+        Err(AskError::Rejected(rejection)) => reject(rejection, values),
+        Err(AskError::NoTable(t)) => {
+            *values = [u64::from(t), 0, 0, 0];
             12
         }
-        Asked::Short => {
+        Err(AskError::Short) => {
             *values = [0, 0, 0, 0];
             2
         }
-        Asked::NoMatch(t) => {
-            *values = [0, t as u64, 0, 0];
+        Err(AskError::NoMatch(t)) => {
+            *values = [0, u64::from(t), 0, 0];
             3
         }
-        Asked::Ambiguous(t) => {
-            *values = [0, t as u64, 0, 0];
+        Err(AskError::Ambiguous(t)) => {
+            *values = [0, u64::from(t), 0, 0];
             4
         }
     }
@@ -115,22 +110,21 @@ pub extern "C" fn dookerand_clash(desc: &[u8], table: u32, values: &mut [u64; 4]
     ensures value { result ≡ clashing.number_of (clash_answer desc.now table) }
     ensures values_after { values.new ≡ clashing.values_of (clash_answer desc.now table) }
 {
-    let judged = clash_check::clash(desc, table);
-    match judged {
-        ClashAnswer::Clear => {
+    match clash_check::clash(desc, table) {
+        Ok(None) => {
             *values = [0, 0, 0, 0];
             0
         }
-        ClashAnswer::Pair(i, j) => {
+        Ok(Some((i, j))) => {
             *values = [1, i as u64, j as u64, 0];
             0
         }
-        ClashAnswer::Malformed { section, record } => {
-            *values = [section as u64, record as u64, 0, 0];
+        Err(ClashError::Malformed(fault)) => {
+            *values = [fault.section as u64, fault.number as u64, 0, 0];
             1
         }
-        ClashAnswer::NoTable(t) => {
-            *values = [t as u64, 0, 0, 0];
+        Err(ClashError::NoTable(t)) => {
+            *values = [u64::from(t), 0, 0, 0];
             12
         }
     }
@@ -140,26 +134,21 @@ pub extern "C" fn dookerand_clash(desc: &[u8], table: u32, values: &mut [u64; 4]
 pub extern "C" fn dookerand_tree(desc: &[u8], table: u32, tree: &[u8], values: &mut [u64; 4]) -> u32
     ensures { Reported desc.now table tree.now result values.new }
 {
-    let answer = tree_check::tree_check(desc, table, tree);
-    match answer {
-        Answer::Accepted => {
+    match tree_check::tree_check(desc, table, tree) {
+        Ok(None) => {
             *values = [0, 0, 0, 0];
             0
         }
-        Answer::WrongLeaf {
-            node,
-            word,
-            context,
-        } => {
-            *values = [1, node as u64, word, context as u64];
+        Ok(Some(leaf)) => {
+            *values = [1, leaf.node as u64, leaf.word, u64::from(leaf.context)];
             0
         }
-        Answer::Rejected(rejection) => reject(rejection, values),
-        Answer::NoTable(t) => {
-            *values = [t as u64, 0, 0, 0];
+        Err(TreeError::Rejected(rejection)) => reject(rejection, values),
+        Err(TreeError::NoTable(t)) => {
+            *values = [u64::from(t), 0, 0, 0];
             12
         }
-        Answer::BadTree(node) => {
+        Err(TreeError::BadTree(node)) => {
             *values = [node as u64, 0, 0, 0];
             11
         }
@@ -177,22 +166,21 @@ pub extern "C" fn dookerand_build(
     ensures values_after { values.new ≡ building.values_of (build_of desc.now table (length tree.old)) }
     ensures tree_after { tree.new ≡ build_after desc.now table tree.old }
 {
-    let built = tree_building::build(desc, table, tree);
-    match built {
-        Built::Done(written) => {
+    match tree_building::build(desc, table, tree) {
+        Ok(written) => {
             *values = [written as u64, 0, 0, 0];
             0
         }
-        Built::Rejected(rejection) => reject(rejection, values),
-        Built::NoTable(t) => {
-            *values = [t as u64, 0, 0, 0];
+        Err(BuildError::Rejected(rejection)) => reject(rejection, values),
+        Err(BuildError::NoTable(t)) => {
+            *values = [u64::from(t), 0, 0, 0];
             12
         }
-        Built::Clashes(i, j) => {
+        Err(BuildError::Clashes(i, j)) => {
             *values = [i as u64, j as u64, 0, 0];
             15
         }
-        Built::TooLarge => {
+        Err(BuildError::TooLarge) => {
             *values = [0, 0, 0, 0];
             16
         }
@@ -212,15 +200,14 @@ pub extern "C" fn dookerand_decode(
     ensures values_after { values.new ≡ decoding.values_of (decode_of desc.now context address code.now (length rows.old)) }
     ensures rows_after { rows.new ≡ rows_after desc.now context address code.now rows.old }
 {
-    let decoded = decoding::decode(desc, context, address, code, rows);
-    match decoded {
-        Decoded::Done(written) => {
+    match decoding::decode(desc, context, address, code, rows) {
+        Ok(written) => {
             *values = [written as u64, 0, 0, 0];
             0
         }
-        Decoded::Rejected(rejection) => reject(rejection, values),
-        Decoded::Refused(refusal) => refuse(refusal, values),
-        Decoded::NoRoom => {
+        Err(DecodeError::Rejected(rejection)) => reject(rejection, values),
+        Err(DecodeError::Refused(refusal)) => refuse(refusal, values),
+        Err(DecodeError::NoRoom) => {
             *values = [0, 0, 0, 0];
             9
         }
@@ -240,19 +227,18 @@ pub extern "C" fn dookerand_text(
     ensures values_after { values.new ≡ texting.values_of (decode_text_of desc.now context address code.now (length text.old)) }
     ensures text_after { text.new ≡ text_after desc.now context address code.now text.old }
 {
-    let texted = text_decoding::decode_text(desc, context, address, code, text);
-    match texted {
-        Texted::Done(written) => {
+    match text_decoding::decode_text(desc, context, address, code, text) {
+        Ok(written) => {
             *values = [written as u64, 0, 0, 0];
             0
         }
-        Texted::Rejected(rejection) => reject(rejection, values),
-        Texted::Refused(refusal) => refuse(refusal, values),
-        Texted::TextTooLong => {
+        Err(TextError::Rejected(rejection)) => reject(rejection, values),
+        Err(TextError::Refused(refusal)) => refuse(refusal, values),
+        Err(TextError::TooLong) => {
             *values = [0, 0, 0, 0];
             10
         }
-        Texted::NoRoom => {
+        Err(TextError::NoRoom) => {
             *values = [0, 0, 0, 0];
             9
         }
@@ -283,31 +269,19 @@ pub extern "C" fn dookerand_sweep(
     ensures values_after { values.new ≡ sweeping.values_of (sweep_of desc.now context address alignment code.now (length rows.old)) }
     ensures rows_after { rows.new ≡ buffer_after desc.now context address alignment code.now rows.old }
 {
-    let swept = sweep::sweep(desc, context, address, alignment, code, rows);
-    match swept {
-        Swept::Ended {
-            why,
-            rows: written,
-            next,
-        } => {
-            *values = [end_number(why), written as u64, next as u64, 0];
+    match sweep::sweep(desc, context, address, alignment, code, rows) {
+        Ok(swept) => {
+            let written = swept.rows;
+            let next = swept.next;
+            *values = [end_number(swept.why), written as u64, next as u64, 0];
             0
         }
-        Swept::Rejected(rejection) => reject(rejection, values),
-        Swept::NoAlignment(n) => {
-            *values = [n as u64, 0, 0, 0];
+        Err(SweepError::Rejected(rejection)) => reject(rejection, values),
+        Err(SweepError::NoAlignment(n)) => {
+            *values = [u64::from(n), 0, 0, 0];
             12
         }
     }
-}
-
-fn full_number(full: bool) -> u64
-    ensures { result ≡ flag full }
-{
-    if full {
-        return 1;
-    }
-    0
 }
 
 #[unsafe(no_mangle)]
@@ -325,16 +299,15 @@ pub extern "C" fn dookerand_list(
     ensures values_after { values.new ≡ listing.values_of (list_of desc.now context address alignment code.now from (length text.old)) }
     ensures text_after { text.new ≡ list_after desc.now context address alignment code.now from text.old }
 {
-    let listed = listing_text::list(desc, context, address, alignment, code, from as usize, text);
-    match listed {
-        Listed::Done(part) => {
-            let full = full_number(part.full);
+    match listing_text::list(desc, context, address, alignment, code, from as usize, text) {
+        Ok(part) => {
+            let full = u64::from(part.full);
             *values = [part.bytes as u64, part.lines as u64, part.next as u64, full];
             0
         }
-        Listed::Rejected(rejection) => reject(rejection, values),
-        Listed::NoAlignment(n) => {
-            *values = [n as u64, 0, 0, 0];
+        Err(ListError::Rejected(rejection)) => reject(rejection, values),
+        Err(ListError::NoAlignment(n)) => {
+            *values = [u64::from(n), 0, 0, 0];
             12
         }
     }

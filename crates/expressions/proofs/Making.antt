@@ -2,30 +2,44 @@
 use Prim.Native.Nat.{ℕ, suc, ◌-◌, ◌^◌, ◌<◌, ◌≤◌}
 use mathlib.Core.Bool.{true, ◌&&◌}
 use mathlib.Core.Path.{◌≡◌}
+use native.Mathlib.Decide.{dec_lt}
 use native.Mathlib.Omega.{arith}
 use borrow.Author.Tests.{lt-ltb, le-ltb, ltb-true, ne_eqb}
 use lib.Dec.{ltb, leb}
 use lib.IntN.{ℤ, pos, ◌+ℤ◌, ◌-ℤ◌, ◌*ℤ◌}
 use lib.ListN.{get_or}
-use mir.Facts.{to_z-neg}
 use mir.Syntax.{w64}
-use mir.Val.{to_z}
+use mir.Val.{SFits, to_z}
+use Rattle.std.specs.Prelude.{Result, Ok, Err, Some, None, OkIff}
+use Rattle.std.specs.Result.{result_ok}
 use Rattle.lists.proofs.Bools.{and_left, and_right}
 use Rattle.format.specs.Expression.{first_operator, first_shift, step_value_ok}
 use Rattle.format.specs.declared.Step.{Step}
+use Rattle.whole_numbers.specs.Range.{kept}
 use Rattle.whole_numbers.specs.Operators.{and_z, or_z, xor_z, left_z, right_z}
+use Rattle.whole_numbers.proofs.Kept.{checked}
 use Rattle.expressions.specs.Value.{Given, constant_of, term_of, operator_of, made_of}
 
 -- a constant's word, read by the machine
-pub constant-above : (word : ℕ) → word < 2 ^ 63 → to_z w64 word ≡ constant_of word
+constant-above : (word : ℕ) → word < 2 ^ 63 → to_z w64 word ≡ constant_of word
 unfolding constant_of
 constant-above word h = rw (lt-ltb word (2 ^ 63) h)
 
-pub constant-below : (word : ℕ) → 2 ^ 63 ≤ word → word < 2 ^ 64 → to_z w64 (2 ^ 64 - 1 - (2 ^ 64 - 1 - word)) ≡ constant_of word
+constant-below : (word : ℕ) → 2 ^ 63 ≤ word → word < 2 ^ 64 → to_z w64 word ≡ constant_of word
 unfolding constant_of
-constant-below word h l =
-    let e : 2 ^ 64 - 1 - (2 ^ 64 - 1 - word) ≡ 2 ^ 64 - suc (2 ^ 64 - suc word) = omega arith in
-    rw (le-ltb word (2 ^ 63) h, lt-ltb word (2 ^ 64) l, e) (to_z-neg w64 (2 ^ 64 - suc word) (omega arith))
+constant-below word h l = rw (le-ltb word (2 ^ 63) h, lt-ltb word (2 ^ 64) l)
+
+pub constant-word : (word : ℕ) → word < 2 ^ 64 → to_z w64 word ≡ constant_of word
+constant-word word h = go (dec_lt word (2 ^ 63))
+  where
+    go : Dec (word < 2 ^ 63) → to_z w64 word ≡ constant_of word
+    go (yes p) = constant-above word p
+    go (no p) = constant-below word (omega arith) h
+
+-- a conversion that can fail gives what is kept
+pub converted : {E : Type 0} (r : Result ℤ E) (z : ℤ) → OkIff r (SFits w64 z) z → result_ok r ≡ kept z
+converted (Ok x) z h = checked (Some x) z h
+converted (Err e) z h = checked None z h
 
 module _ (g : Given) (s : Step) where
   pub is-constant : s.kind ≡ 0 → term_of g s ≡ constant_of s.value

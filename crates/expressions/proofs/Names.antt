@@ -6,14 +6,14 @@ use mathlib.Core.Path.{◌≡◌, refl, sym, ◌∙◌}
 use native.Mathlib.Nat.{div-eq_of_lt}
 use native.Mathlib.Decide.{dec_lt}
 use native.Mathlib.Omega.{arith}
-use borrow.Author.Tests.{eqb-true, le-leb, leb-true, eq-eqb, ne_eqb}
+use borrow.Author.Tests.{eqb-true, le-leb}
 use lib.Dec.{leb, eqb}
 use lib.ListN.{get_or-eq_default}
 use lib.Pow.{pow_mono}
 use Rattle.bits.specs.Bits.{bit, is_set}
 use Rattle.lists.specs.Below.{all_below}
 use Rattle.lists.proofs.Below.{all-at, all_of, all-stop}
-use Rattle.lists.proofs.Bools.{and_both, and_left, and_right}
+use Rattle.lists.proofs.Bools.{and_both}
 use Rattle.lists.proofs.Tab.{tab-length}
 use Rattle.format.specs.Numbers.{most_steps, step_bytes}
 use Rattle.format.specs.Expression.{Expression, expression_at, step_at, step_of, no_step, names_operand, names_only}
@@ -28,12 +28,6 @@ beyond n word k h l =
 
 abbrev pub named : (ℕ → Bool) → Step → Bool
 named allowed s = not (names_operand s) || allowed s.value
-
-pub names-none : (allowed : ℕ → Bool) (s : Step) → (s.kind ≡ 1 → ⊥) → true ≡ named allowed s
-names-none allowed s h = rw (ne_eqb s.kind 1 h)
-
-pub names-one : (allowed : ℕ → Bool) (s : Step) → s.kind ≡ 1 → named allowed s ≡ allowed s.value
-names-one allowed s h = rw (eq-eqb s.kind 1 h)
 
 -- a step past the last of the record names nothing
 past_end : (b : List ℕ) (at i : ℕ) → most_steps ≤ i → step_of (expression_at b at) i ≡ no_step
@@ -80,6 +74,3 @@ word-numbered n word e z h p = names-weaker (is_set word) (numbered n) e (λ k s
     go k s (yes l) = absurd (false≢true (sym (beyond (suc n) word k h l) ∙ s))
     go zero s (no l) = absurd (omega (arith, eqb-true (bit word 0) 1 s))
     go (suc k) s (no l) = and_both (leb 1 (suc k)) (leb (suc k) n) (le-leb 1 (suc k) (omega arith)) (le-leb (suc k) n (omega arith))
-
-pub numbered_is : (n k : ℕ) → numbered n k ≡ true → (1 ≤ k) × (k ≤ n)
-numbered_is n k e = (leb-true 1 k (and_left (leb 1 k) (leb k n) e), leb-true k n (and_right (leb 1 k) (leb k n) e))

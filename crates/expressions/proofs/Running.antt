@@ -15,7 +15,7 @@ use Rattle.format.specs.Numbers.{most_steps}
 use Rattle.format.specs.Expression.{Expression, step_of, takes, depth_after, step_value_ok, step_ok}
 use Rattle.format.specs.declared.Step.{Step}
 use Rattle.whole_numbers.specs.Range.{inside}
-use Rattle.whole_numbers.specs.declared.Whole.TheVariants.{Value, Outside}
+use Rattle.std.specs.Prelude.{Some, None}
 use Rattle.expressions.specs.Value.{Given, made_of, step_on, stack_after, top_after, value_of}
 use Rattle.expressions.proofs.Records.{Written, passes, enough}
 
@@ -105,12 +105,12 @@ module _ (g : Given) (e : Expression) where
         within = all_more kept_in i r.within (rw (← m) k);
       }
 
-  pub running-stop : (i : ℕ) (cells : List ℤ) (top : ℕ) → Running i cells top → i < e.count → inside (top_after g e (suc i)) ≡ false → Outside ≡ value_of g e
+  pub running-stop : (i : ℕ) (cells : List ℤ) (top : ℕ) → Running i cells top → i < e.count → inside (top_after g e (suc i)) ≡ false → None ≡ value_of g e
   unfolding value_of
   running-stop i cells top r h f = rw (all-stop kept_in e.count i h f)
 
-  pub running-end : (i : ℕ) (cells : List ℤ) (top : ℕ) → Running i cells top → i ≡ e.count → Value (get_or cells top (pos 0)) ≡ value_of g e
+  pub running-end : (i : ℕ) (cells : List ℤ) (top : ℕ) → Running i cells top → i ≡ e.count → Some (get_or cells top (pos 0)) ≡ value_of g e
   unfolding value_of
   running-end i cells top r q =
       let z : get_or cells top (pos 0) ≡ top_after g e i = ap (λ k. get_or cells k (pos 0)) (omega arith) ∙ running-cell i cells top 0 r in
-      rw (rw q at r.within) (ap Value (rw q at z))
+      rw (rw q at r.within) (ap Some (rw q at z))

@@ -15,7 +15,7 @@ use Rattle.format.specs.Numbers.{expression_bytes}
 use Rattle.format.specs.Expression.{Expression, expression_at, step_of, writes_expression, names_only}
 use Rattle.format.specs.declared.Step.{Step}
 use Rattle.whole_numbers.specs.Range.{inside}
-use Rattle.whole_numbers.specs.declared.Whole.TheVariants.{Value, Outside}
+use Rattle.std.specs.Prelude.{Some, None}
 use Rattle.expressions.specs.Value.{Given, given, constant_of, term_of, made_of, step_on, stack_after, top_after, value_of, Usable}
 use Rattle.expressions.proofs.Names.{named, names_at, word-numbered}
 
@@ -76,14 +76,14 @@ value-padded operands n here after e =
     value-alike (λ n. true) _ _ (record { operands = λ k t. zeros-behind operands n (k - 1); here = refl; after = refl }) e (every-name e)
 
 -- a value that is given fits
-pub value-inside : (g : Given) (e : Expression) (v : ℤ) → 1 ≤ e.count → value_of g e ≡ Value v → inside v ≡ true
+pub value-inside : (g : Given) (e : Expression) (v : ℤ) → 1 ≤ e.count → value_of g e ≡ Some v → inside v ≡ true
 unfolding value_of
 value-inside g e v h q = go (all_below e.count kept_in) refl q
   where
     kept_in : ℕ → Bool
     kept_in i = inside (top_after g e (suc i))
 
-    go : (t : Bool) → all_below e.count kept_in ≡ t → cond t (Value (top_after g e e.count)) Outside ≡ Value v → inside v ≡ true
+    go : (t : Bool) → all_below e.count kept_in ≡ t → cond t (Some (top_after g e e.count)) None ≡ Some v → inside v ≡ true
     go true p r =
         let last : suc (e.count - 1) ≡ e.count = omega arith in
         let z : top_after g e e.count ≡ v = cc in

@@ -1,12 +1,10 @@
 -- An expression as one writes it: its value, its steps, and the record that writes it.
-use Rattle.std.specs.Prelude.{ℕ, zero, suc, ◌-◌, ◌/◌, ◌%◌, ◌^◌, Bool, true, cond, ◌&&◌, List, [], ◌∷◌, ◌++◌, ltb, ℤ, pos, negsuc, ◌+ℤ◌, ◌-ℤ◌, ◌*ℤ◌, length, get_or, replicate}
+use Rattle.std.specs.Prelude.{ℕ, zero, suc, ◌-◌, ◌/◌, ◌%◌, ◌^◌, Bool, true, cond, ◌&&◌, List, [], ◌∷◌, ◌++◌, ltb, ℤ, pos, negsuc, ◌+ℤ◌, ◌-ℤ◌, ◌*ℤ◌, length, get_or, replicate, Option, Some, None}
 use Rattle.format.specs.Numbers.{most_steps, byte_values}
 use Rattle.format.specs.Expression.{Expression, no_step, shifts}
 use Rattle.format.specs.declared.Step.{Step}
 use Rattle.whole_numbers.specs.Range.{inside}
 use Rattle.whole_numbers.specs.Operators.{and_z, or_z, xor_z, left_z, right_z}
-use Rattle.whole_numbers.specs.declared.Whole.{Whole}
-use Rattle.whole_numbers.specs.declared.Whole.TheVariants.{Value, Outside}
 use Rattle.expressions.specs.Value.{Given}
 
 -- "constants, the constructor's own field operands, the instruction's address, the address after it"
@@ -57,8 +55,8 @@ inside_in g (leaf t) = inside (term_in g t)
 inside_in g (shift d k t) = inside_in g t && inside (shifted d k (value_in g t))
 inside_in g (pair o a b) = inside_in g a && inside_in g b && inside (applied o (value_in g a) (value_in g b))
 
-unfoldable pub whole_in : Given → Tree → Whole
-whole_in g t = cond (inside_in g t) (Value (value_in g t)) Outside
+unfoldable pub whole_in : Given → Tree → Option ℤ
+whole_in g t = cond (inside_in g t) (Some (value_in g t)) None
 
 -- "with any signed 64-bit constant", "shifts by a constant 0 to 63"; an operand's number is a byte
 unfoldable pub term_fits : Term → Bool

@@ -1,5 +1,5 @@
 -- The value of an expression: its steps on a stack of whole numbers, without bound; afterwards every one on the way must have been inside.
-use Rattle.std.specs.Prelude.{ℕ, zero, suc, ◌+◌, ◌-◌, ◌^◌, ◌≤◌, Bool, true, cond, ◌&&◌, List, [], ◌∷◌, ◌≡◌, leb, ltb, eqb, ℤ, pos, ◌+ℤ◌, ◌-ℤ◌, ◌*ℤ◌, length, get_or, drop}
+use Rattle.std.specs.Prelude.{ℕ, zero, suc, ◌+◌, ◌-◌, ◌^◌, ◌≤◌, Bool, true, cond, ◌&&◌, List, [], ◌∷◌, ◌≡◌, leb, ltb, eqb, ℤ, pos, ◌+ℤ◌, ◌-ℤ◌, ◌*ℤ◌, length, get_or, drop, Option, Some, None}
 use Rattle.std.proofs.Math.IntN.{sub_ℕ}
 use Rattle.lists.specs.Below.{all_below}
 use Rattle.format.specs.Numbers.{expression_bytes}
@@ -7,8 +7,6 @@ use Rattle.format.specs.Expression.{Expression, expression_at, step_of, takes, c
 use Rattle.format.specs.declared.Step.{Step}
 use Rattle.whole_numbers.specs.Range.{inside}
 use Rattle.whole_numbers.specs.Operators.{and_z, or_z, xor_z, left_z, right_z}
-use Rattle.whole_numbers.specs.declared.Whole.{Whole}
-use Rattle.whole_numbers.specs.declared.Whole.TheVariants.{Value, Outside}
 
 -- what an expression is evaluated on: the numbers that its user's operands count as, "the instruction's address, the address after it"
 pub record Given : Type 0 where
@@ -60,8 +58,8 @@ abbrev pub top_after : Given → Expression → ℕ → ℤ
 top_after g e i = get_or (stack_after g e i) 0 (pos 0)
 
 -- "Values are whole numbers ..; any on the way outside signed 64 bits is refused": each step's value is the topmost one after it
-unfoldable pub value_of : Given → Expression → Whole
-value_of g e = cond (all_below e.count (λ i. inside (top_after g e (suc i)))) (Value (top_after g e e.count)) Outside
+unfoldable pub value_of : Given → Expression → Option ℤ
+value_of g e = cond (all_below e.count (λ i. inside (top_after g e (suc i)))) (Some (top_after g e e.count)) None
 
 -- an operand's number, from 1 to so many
 abbrev pub numbered : ℕ → ℕ → Bool

@@ -7,53 +7,51 @@ ghost use Rattle.fields.specs.Token.{Joinable, token_of};
 ghost use Rattle.fields.specs.Look.{look_of, number_of};
 
 use format::Field;
+use printing::Base;
 
 // How a value is shown: as a number, with a sign or without, in a base; or by its name.
-#[derive(Clone, Copy)]
+#[derive(Clone, Copy, PartialEq, Eq)]
 pub enum Look {
-    Number { signed: bool, base: u8 },
+    Number { signed: bool, base: Base },
     Name,
 }
 
-pub fn look_of(look: u8) -> Look
-    ensures { result ≡ look_of look }
-{
-    match look {
-        0 => Look::Number {
-            signed: false,
-            base: 10,
-        },
-        1 => Look::Number {
-            signed: true,
-            base: 10,
-        },
-        2 => Look::Number {
-            signed: false,
-            base: 16,
-        },
-        3 => Look::Number {
-            signed: true,
-            base: 16,
-        },
-        4 => Look::Name,
-        5..=255 => Look::Number {
-            signed: false,
-            base: 10,
-        },
-    }
-}
+impl From<u8> for Look {
+    ghost from_gives = { λ look r. r ≡ look_of look };
 
-fn wide(x: u8) -> u64
-    ensures { (result ≡ x) × (result < 256) }
-{
-    x as u64
+    #[tactic(auto, unfolding(crate::specs::Look::look_of))]
+    fn from(look: u8) -> Look {
+        match look {
+            0 => Look::Number {
+                signed: false,
+                base: Base::Decimal,
+            },
+            1 => Look::Number {
+                signed: true,
+                base: Base::Decimal,
+            },
+            2 => Look::Number {
+                signed: false,
+                base: Base::Hexadecimal,
+            },
+            3 => Look::Number {
+                signed: true,
+                base: Base::Hexadecimal,
+            },
+            4 => Look::Name,
+            5..=255 => Look::Number {
+                signed: false,
+                base: Base::Decimal,
+            },
+        }
+    }
 }
 
 // Four bytes as a number, the lowest first.
 fn joined(a: u8, b: u8, c: u8, d: u8) -> u64
     ensures { result ≡ a + 256 * (b + 256 * (c + 256 * d)) }
 {
-    wide(a) + 256 * (wide(b) + 256 * (wide(c) + 256 * wide(d)))
+    u64::from(u32::from_le_bytes([a, b, c, d]))
 }
 
 // The token's number, its first byte the lowest. Written out by width: bytes that are joined where they stand are one load.
@@ -61,8 +59,7 @@ fn little(field: Field, code: &[u8]) -> u64
     requires { Joinable field code.now × (field.order ≡ 0) }
     ensures { result ≡ token_of field code.now }
 {
-    let width = field.width;
-    match width {
+    match field.width {
         1 => joined(code[0], 0, 0, 0),
         2 => joined(code[0], code[1], 0, 0),
         3 => joined(code[0], code[1], code[2], 0),
@@ -75,8 +72,7 @@ fn big(field: Field, code: &[u8]) -> u64
     requires { Joinable field code.now × (field.order ≡ 0 → ⊥) }
     ensures { result ≡ token_of field code.now }
 {
-    let width = field.width;
-    match width {
+    match field.width {
         1 => joined(code[0], 0, 0, 0),
         2 => joined(code[1], code[0], 0, 0),
         3 => joined(code[2], code[1], code[0], 0),

@@ -3,7 +3,7 @@ use Prim.Native.Nat.{ℕ, ◌≤◌}
 use mathlib.Core.Bool.{Bool, true, false, cond}
 use mathlib.Core.List.{List}
 use mathlib.Core.Path.{◌≡◌, refl}
-use native.Mathlib.Omega.{arith}
+use Rattle.std.specs.Prelude.{Result, Ok, Err}
 use borrow.Author.Tests.{ltb-false}
 use lib.Dec.{ltb}
 use lib.ListN.{length}
@@ -15,10 +15,7 @@ use Rattle.format.specs.Expression.{no_expression, writes_expression}
 use Rattle.format.specs.Rules.{field_ok, name_ok, constructor_ok, operand_ok, piece_ok, letter_ok}
 use Rattle.format.specs.Check.{all_good, named, fault_of, part_fault, last_fault, judged, check_of, WellFormed, bad_field, bad_name, bad_constructor, bad_operand, bad_piece, bad_letter, bad_expression}
 use Rattle.format.specs.declared.Layout.{Layout}
-use Rattle.format.specs.declared.LayoutResult.{LayoutResult}
-use Rattle.format.specs.declared.LayoutResult.TheVariants as laid
-use Rattle.format.specs.declared.Checked.{Checked}
-use Rattle.format.specs.declared.Checked.TheVariants.{Good, Fault}
+use Rattle.format.specs.declared.Fault.{Fault}
 use Rattle.format.proofs.Places.{laid-room}
 
 -- every record of every section obeys its rules
@@ -32,15 +29,15 @@ pub record RulesHold (d : Description) : Type 0 where
   pub expressions : all_good writes_expression no_expression d.expressions ≡ true
 
 -- a section that is passed over has no faulty record
-passed : (k i n : ℕ) (rest : Checked) (l : Layout) → named k i n rest ≡ Good l → (n ≤ i) × (rest ≡ Good l)
+passed : (k i n : ℕ) (rest : Result Layout Fault) (l : Layout) → named k i n rest ≡ Ok l → (n ≤ i) × (rest ≡ Ok l)
 passed k i n rest l e = go (ltb i n) refl e
   where
-    go : (t : Bool) → ltb i n ≡ t → cond t (Fault k i) rest ≡ Good l → (n ≤ i) × (rest ≡ Good l)
-    go true p q = let z : ◌≡◌ {A = ℕ} 0 1 = cc in absurd (omega arith)
+    go : (t : Bool) → ltb i n ≡ t → cond t (Err (record { section = k; number = i })) rest ≡ Ok l → (n ≤ i) × (rest ≡ Ok l)
+    go true p q = cc
     go false p q = (ltb-false i n p, q)
 
 -- no fault: the places are handed on, and every record obeys its rules
-unfaulted : (d : Description) (l m : Layout) → fault_of d l ≡ Good m → (l ≡ m) × RulesHold d
+unfaulted : (d : Description) (l m : Layout) → fault_of d l ≡ Ok m → (l ≡ m) × RulesHold d
 unfolding fault_of part_fault last_fault bad_field bad_name bad_constructor bad_operand bad_piece bad_letter bad_expression
 unfaulted d l m e =
     let fields = passed 1 (bad_field d) (length d.fields) _ m e in
@@ -63,15 +60,15 @@ unfaulted d l m e =
     )
 
 -- the layout that was judged
-laid_of : (b : List ℕ) (l : Layout) (x : LayoutResult) → layout_of b ≡ x → judged b x ≡ Good l → (layout_of b ≡ laid.At l) × RulesHold (description b l)
-laid_of b l (laid.At m) p e =
+laid_of : (b : List ℕ) (l : Layout) (x : Result Layout ℕ) → layout_of b ≡ x → judged b x ≡ Ok l → (layout_of b ≡ Ok l) × RulesHold (description b l)
+laid_of b l (Ok m) p e =
     let u = unfaulted (description b m) m l e in
     (rw u.0 at p, rw u.0 at u.1)
-laid_of b l (laid.Fault k) p e = let z : ◌≡◌ {A = ℕ} 0 1 = cc in absurd (omega arith)
+laid_of b l (Err k) p e = cc
 
 module _ (b : List ℕ) (l : Layout) where
   -- the door to everything above: what `check` says when it finds no fault
-  pub formed : check_of b ≡ Good l → WellFormed b l
+  pub formed : check_of b ≡ Ok l → WellFormed b l
   unfolding check_of
   formed e = record { room = laid-room b l (laid_of b l (layout_of b) refl e).0; good = e }
 

@@ -4,5 +4,4 @@ pub mod Places
 pub mod Product
 pub mod Formation
 pub mod Tables
-pub mod Search
 pub mod Example

@@ -3,7 +3,6 @@ use Prim.Native.Nat.{ℕ, ◌+◌, ◌*◌, ◌<◌}
 use mathlib.Core.List.{List}
 use mathlib.Core.Path.{◌≡◌, ap, ◌∙◌}
 use native.Mathlib.Omega.{arith}
-use native.Mathlib.Nat.{mul-add, mul-one}
 use lib.ListN.{length, get_or}
 use Rattle.lists.proofs.Tab.{tab-length, tab-at}
 use Rattle.format.specs.Bytes.{byte_at}
@@ -20,10 +19,6 @@ module _ {A : Type 0} (reader : List ℕ → ℕ → A) (size : ℕ) (b : List �
 
   pub record-here : (i : ℕ) (none : A) → i < s.count → get_or (records_of reader size b s) i none ≡ reader b (s.start + size * i)
   record-here i none h = tab-at _ _ i none h
-
--- a cursor moved by a record's size stands at the next record
-pub record-step : (size : ℕ) (s : Section) (i at : ℕ) → at ≡ s.start + size * i → at + size ≡ s.start + size * (i + 1)
-record-step size s i at e = omega (arith, mul-add size i 1, mul-one size)
 
 module _ (b : List ℕ) (l : Layout) where
   pub fields-length : length (fields_of b l) ≡ l.fields.count

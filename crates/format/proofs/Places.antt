@@ -5,6 +5,7 @@ use mathlib.Core.List.{List}
 use mathlib.Core.Path.{◌≡◌, refl}
 use native.Mathlib.Omega.{arith}
 use native.Mathlib.Nat.{mul_comm}
+use Rattle.std.specs.Prelude.{Some, None, Result, Ok, Err}
 use borrow.Author.Tests.{leb-true}
 use lib.Dec.{leb, eqb}
 use lib.ListN.{length}
@@ -14,9 +15,6 @@ use Rattle.format.specs.Numbers.{count_bytes}
 use Rattle.format.specs.Layout.{SectionsInBounds, inside, next, end_or, section_at, layout_of, names_from, constructors_from, operands_from, pieces_from, text_from, expressions_from}
 use Rattle.format.specs.declared.Section.{Section}
 use Rattle.format.specs.declared.Layout.{Layout}
-use Rattle.format.specs.declared.Counted.TheVariants.{Found, Missing}
-use Rattle.format.specs.declared.LayoutResult.{LayoutResult}
-use Rattle.format.specs.declared.LayoutResult.TheVariants.{At, Fault}
 
 -- what a count that was found says of its section
 pub record Placed (b : List ℕ) (least most size : ℕ) (s : Section) : Type 0 where
@@ -25,14 +23,14 @@ pub record Placed (b : List ℕ) (least most size : ℕ) (s : Section) : Type 0 
   pub few : s.count ≤ most
 
 -- the section that a step went past, and what the step after it gave
-record Passed (b : List ℕ) (least most size : ℕ) (more : Section → ℕ → LayoutResult) (l : Layout) : Type 0 where
+record Passed (b : List ℕ) (least most size : ℕ) (more : Section → ℕ → Result Layout ℕ) (l : Layout) : Type 0 where
   section : Section
   at : ℕ
   placed : Placed b least most size section
-  rest : more section at ≡ At l
+  rest : more section at ≡ Ok l
 
-passed : (b : List ℕ) (k at least most size : ℕ) (more : Section → ℕ → LayoutResult) (l : Layout)
-    → next k (section_at b at least most size) more ≡ At l → Passed b least most size more l
+passed : (b : List ℕ) (k at least most size : ℕ) (more : Section → ℕ → Result Layout ℕ) (l : Layout)
+    → next k (section_at b at least most size) more ≡ Ok l → Passed b least most size more l
 unfolding section_at
 passed b k at least most size more l e = go _ refl e
   where
@@ -41,7 +39,7 @@ passed b k at least most size more l e = go _ refl e
 
     go : (t : Bool)
         → (leb (at + count_bytes) (length b) && leb least n && leb n most && leb (at + count_bytes + n * size) (length b)) ≡ t
-        → next k (cond t (Found (record { start = at + count_bytes; count = n }) (record { at = at + count_bytes + n * size })) Missing) more ≡ At l
+        → next k (cond t (Some (record { value = record { start = at + count_bytes; count = n }; next = record { at = at + count_bytes + n * size } })) None) more ≡ Ok l
         → Passed b least most size more l
     go true p q =
         let f = and4 (leb (at + count_bytes) (length b)) (leb least n) (leb n most) (leb (at + count_bytes + n * size) (length b)) p in
@@ -56,22 +54,22 @@ passed b k at least most size more l e = go _ refl e
               };
           rest = q;
         }
-    go false p q = let z : ◌≡◌ {A = ℕ} 0 1 = cc in absurd (omega arith)
+    go false p q = cc
 
 -- reading on from a layout that has room gives, if there is no fault, one that has room
-Keeps : List ℕ → (Layout → ℕ → LayoutResult) → Type 0
-Keeps b rest = (l m : Layout) (at : ℕ) → SectionsInBounds b l → rest l at ≡ At m → SectionsInBounds b m
+Keeps : List ℕ → (Layout → ℕ → Result Layout ℕ) → Type 0
+Keeps b rest = (l m : Layout) (at : ℕ) → SectionsInBounds b l → rest l at ≡ Ok m → SectionsInBounds b m
 
-fault-keeps : (b : List ℕ) (k : ℕ) → Keeps b (λ l at. Fault k)
+fault-keeps : (b : List ℕ) (k : ℕ) → Keeps b (λ l at. Err k)
 unfolding Keeps
-fault-keeps b k l m at r e = let z : ◌≡◌ {A = ℕ} 0 1 = cc in absurd (omega arith)
+fault-keeps b k l m at r e = cc
 
 -- .. also where the description may end
-end-keeps : (b : List ℕ) (rest : Layout → ℕ → LayoutResult) → Keeps b rest → Keeps b (end_or b rest)
+end-keeps : (b : List ℕ) (rest : Layout → ℕ → Result Layout ℕ) → Keeps b rest → Keeps b (end_or b rest)
 unfolding Keeps
 end-keeps b rest k l m at r e = go (eqb at (length b)) e
   where
-    go : (t : Bool) → cond t (At l) (rest l at) ≡ At m → SectionsInBounds b m
+    go : (t : Bool) → cond t (Ok l) (rest l at) ≡ Ok m → SectionsInBounds b m
     go true p = let s : l ≡ m = cc in rw s at r
     go false p = k l m at r p
 
@@ -79,7 +77,7 @@ expressions-keeps : (b : List ℕ) → Keeps b (expressions_from b)
 unfolding expressions_from Keeps
 expressions-keeps b l m at r e =
     let expressions = passed b 7 _ _ _ _ _ m e in
-    end-keeps b (λ l at. Fault 7) (fault-keeps b 7) _ m expressions.at
+    end-keeps b (λ l at. Err 7) (fault-keeps b 7) _ m expressions.at
     (record {
       fields = r.fields;
       names = r.names;
@@ -97,7 +95,7 @@ expressions-keeps b l m at r e =
     expressions.rest
 
 -- the places that the counts give
-pub laid-room : (b : List ℕ) (l : Layout) → layout_of b ≡ At l → SectionsInBounds b l
+pub laid-room : (b : List ℕ) (l : Layout) → layout_of b ≡ Ok l → SectionsInBounds b l
 unfolding layout_of names_from constructors_from operands_from pieces_from text_from Keeps
 laid-room b l e =
     let fields = passed b 1 _ _ _ _ _ l e in

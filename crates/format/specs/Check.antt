@@ -1,5 +1,5 @@
 -- The judgement of a byte list: its fault, or the description that it is.
-use Rattle.std.specs.Prelude.{ℕ, Bool, cond, List, [], ◌∷◌, ◌≡◌, ltb, length, get_or}
+use Rattle.std.specs.Prelude.{ℕ, Bool, cond, List, [], ◌∷◌, ◌≡◌, ltb, length, get_or, Result, Ok, Err}
 use Rattle.lists.specs.Below.{all_below, first_below}
 use Rattle.format.specs.Numbers.{section_itself}
 use Rattle.format.specs.Layout.{layout_of, SectionsInBounds}
@@ -7,10 +7,7 @@ use Rattle.format.specs.Description.{Description, description, no_field, no_name
 use Rattle.format.specs.Expression.{no_expression, writes_expression}
 use Rattle.format.specs.Rules.{field_ok, name_ok, constructor_ok, operand_ok, piece_ok, letter_ok}
 use Rattle.format.specs.declared.Layout.{Layout}
-use Rattle.format.specs.declared.LayoutResult.{LayoutResult}
-use Rattle.format.specs.declared.LayoutResult.TheVariants as laid
-use Rattle.format.specs.declared.Checked.{Checked}
-use Rattle.format.specs.declared.Checked.TheVariants.{Good, Fault}
+use Rattle.format.specs.declared.Fault.{Fault}
 
 -- the first record of a section that breaks the section's rule, or the section's count; and whether none does
 abbrev pub first_bad : {A : Type 0} → (A → Bool) → A → List A → ℕ
@@ -41,51 +38,51 @@ unfoldable pub bad_expression : Description → ℕ
 bad_expression d = first_bad writes_expression no_expression d.expressions
 
 -- record i of section k is at fault if it is one of the section's n; else what comes after it is judged
-abbrev pub named : ℕ → ℕ → ℕ → Checked → Checked
-named k i n rest = cond (ltb i n) (Fault k i) rest
+abbrev pub named : ℕ → ℕ → ℕ → Result Layout Fault → Result Layout Fault
+named k i n rest = cond (ltb i n) (Err (record { section = k; number = i })) rest
 
 -- the faults of the text and the expressions
-unfoldable pub last_fault : Description → Layout → Checked
-last_fault d l = named 6 (bad_letter d) (length d.text) (named 7 (bad_expression d) (length d.expressions) (Good l))
+unfoldable pub last_fault : Description → Layout → Result Layout Fault
+last_fault d l = named 6 (bad_letter d) (length d.text) (named 7 (bad_expression d) (length d.expressions) (Ok l))
 
 -- the faults of the operands and pieces, then those
-unfoldable pub part_fault : Description → Layout → Checked
+unfoldable pub part_fault : Description → Layout → Result Layout Fault
 part_fault d l =
     named 4 (bad_operand d) (length d.operands) (named 5 (bad_piece d) (length d.pieces) (last_fault d l))
 
 -- "Then the first faulty record in file order is named. A description without a fault is well formed."
-unfoldable pub fault_of : Description → Layout → Checked
+unfoldable pub fault_of : Description → Layout → Result Layout Fault
 fault_of d l =
     named 1 (bad_field d) (length d.fields)
     (named 2 (bad_name d) (length d.names)
     (named 3 (bad_constructor d) (length d.constructors) (part_fault d l)))
 
-abbrev pub judged : List ℕ → LayoutResult → Checked
-judged b (laid.At l) = fault_of (description b l) l
-judged b (laid.Fault k) = Fault k section_itself
+abbrev pub judged : List ℕ → Result Layout ℕ → Result Layout Fault
+judged b (Ok l) = fault_of (description b l) l
+judged b (Err k) = Err (record { section = k; number = section_itself })
 
 -- what `check` answers
-unfoldable pub check_of : List ℕ → Checked
+unfoldable pub check_of : List ℕ → Result Layout Fault
 check_of b = judged b (layout_of b)
 
 -- "1 | description not well formed | section, record": the answer's number in document 01's table ..
-abbrev pub number_of : Checked → ℕ
-number_of (Good l) = 0
-number_of (Fault k i) = 1
+abbrev pub number_of : Result Layout Fault → ℕ
+number_of (Ok l) = 0
+number_of (Err x) = 1
 
 -- .. and its values, unused ones 0
-abbrev pub values_of : Checked → List ℕ
-values_of (Good l) = 0 ∷ 0 ∷ 0 ∷ 0 ∷ []
-values_of (Fault k i) = k ∷ i ∷ 0 ∷ 0 ∷ []
+abbrev pub values_of : Result Layout Fault → List ℕ
+values_of (Ok l) = 0 ∷ 0 ∷ 0 ∷ 0 ∷ []
+values_of (Err x) = x.section ∷ x.number ∷ 0 ∷ 0 ∷ []
 
 -- what a byte list means: a well-formed description, or a fault with its section and record
 pub data Parsed : Type 0 where
   formed : Description → Parsed
   fault : ℕ → ℕ → Parsed
 
-abbrev pub meaning : List ℕ → Checked → Parsed
-meaning b (Good l) = formed (description b l)
-meaning b (Fault k i) = fault k i
+abbrev pub meaning : List ℕ → Result Layout Fault → Parsed
+meaning b (Ok l) = formed (description b l)
+meaning b (Err x) = fault x.section x.number
 
 unfoldable pub parse : List ℕ → Parsed
 parse b = meaning b (check_of b)
@@ -93,4 +90,4 @@ parse b = meaning b (check_of b)
 -- these bytes read as the description `description b l`, with these places
 pub record WellFormed (b : List ℕ) (l : Layout) : Type 0 where
   pub room : SectionsInBounds b l
-  pub good : check_of b ≡ Good l
+  pub good : check_of b ≡ Ok l

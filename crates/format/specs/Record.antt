@@ -1,20 +1,14 @@
 -- One definition for each record: what stands at a place, and with it the place behind, as the cursor hands it back.
 use Rattle.std.specs.Prelude.{ℕ, ◌+◌, List}
 use Rattle.format.specs.Bytes.{byte_at, u16_at, u32_at, u64_at}
-use Rattle.format.specs.Numbers.{field_bytes, name_bytes, constructor_bytes, operand_bytes, piece_bytes, letter_bytes, expression_bytes}
 use Rattle.format.specs.declared.Field.{Field}
 use Rattle.format.specs.declared.Name.{Name}
 use Rattle.format.specs.declared.Pattern.{Pattern}
 use Rattle.format.specs.declared.Constructor.{Constructor}
 use Rattle.format.specs.declared.Operand.{Operand}
 use Rattle.format.specs.declared.Piece.{Piece}
-use Rattle.format.specs.declared.FieldRead.{FieldRead}
-use Rattle.format.specs.declared.NameRead.{NameRead}
-use Rattle.format.specs.declared.ConstructorRead.{ConstructorRead}
-use Rattle.format.specs.declared.OperandRead.{OperandRead}
-use Rattle.format.specs.declared.PieceRead.{PieceRead}
-use Rattle.format.specs.declared.LetterRead.{LetterRead}
-use Rattle.format.specs.declared.ExpressionRead.{ExpressionRead}
+use Rattle.format.specs.declared.Place.{Place}
+use Rattle.format.specs.declared.Read.{Read}
 
 -- "source, width, order, low, high, look (a byte each), first name (2)"
 abbrev pub field_at : List ℕ → ℕ → Field
@@ -63,23 +57,10 @@ operand_at b at =
 abbrev pub piece_at : List ℕ → ℕ → Piece
 piece_at b at = record { kind = byte_at b at; n = byte_at b (at + 1); offset = u16_at b (at + 2) }
 
-abbrev pub field_read : List ℕ → ℕ → FieldRead
-field_read b at = record { field = field_at b at; next = record { at = at + field_bytes } }
+-- an expression is read by its place
+abbrev pub place_at : List ℕ → ℕ → Place
+place_at b at = record { at = at }
 
-abbrev pub name_read : List ℕ → ℕ → NameRead
-name_read b at = record { name = name_at b at; next = record { at = at + name_bytes } }
-
-abbrev pub constructor_read : List ℕ → ℕ → ConstructorRead
-constructor_read b at = record { constructor = constructor_at b at; next = record { at = at + constructor_bytes } }
-
-abbrev pub operand_read : List ℕ → ℕ → OperandRead
-operand_read b at = record { operand = operand_at b at; next = record { at = at + operand_bytes } }
-
-abbrev pub piece_read : List ℕ → ℕ → PieceRead
-piece_read b at = record { piece = piece_at b at; next = record { at = at + piece_bytes } }
-
-abbrev pub letter_read : List ℕ → ℕ → LetterRead
-letter_read b at = record { letter = byte_at b at; next = record { at = at + letter_bytes } }
-
-abbrev pub expression_read : ℕ → ExpressionRead
-expression_read at = record { place = at; next = record { at = at + expression_bytes } }
+-- a record that takes so many bytes, read by a cursor
+abbrev pub read_at : {A : Type 0} → (List ℕ → ℕ → A) → ℕ → List ℕ → ℕ → Read A
+read_at reader size b at = record { value = reader b at; next = record { at = at + size } }

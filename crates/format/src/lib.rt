@@ -1,10 +1,10 @@
 // The description's format: its records, the numbers that limit it, and the cursor that reads it.
 #![tactic(auto)]
 
-ghost use Rattle.std.specs.Prelude.{◌≡◌, ◌+◌, ◌<◌, ◌≤◌, length};
-ghost use Rattle.format.specs.Bytes.{u16_at, u32_at, u64_at};
+ghost use Rattle.std.specs.Prelude.{◌≡◌, ℕ, ◌+◌, ◌≤◌, List, length};
+ghost use Rattle.format.specs.Bytes.{byte_at, u16_at, u32_at, u64_at};
 ghost use Rattle.format.specs.Numbers.{field_bytes, name_bytes, constructor_bytes, operand_bytes, piece_bytes, letter_bytes, expression_bytes};
-ghost use Rattle.format.specs.Record.{field_read, name_read, pattern_at, constructor_read, operand_read, piece_read, letter_read, expression_read};
+ghost use Rattle.format.specs.Record.{field_at, name_at, pattern_at, constructor_at, operand_at, piece_at, place_at, read_at};
 ghost use Rattle.format.specs.Layout.{section_at};
 
 // The most records that a section holds, and the least that section 3 holds.
@@ -107,7 +107,7 @@ pub struct Name {
 }
 
 // Byte i of the byte mask is bits 8i to 8i + 7 of `mask`, and so for the value.
-#[derive(Clone, Copy)]
+#[derive(Clone, Copy, PartialEq, Eq)]
 pub struct Pattern {
     pub mask: u64,
     pub value: u64,
@@ -171,18 +171,11 @@ pub struct Layout {
     pub expressions: Section,
 }
 
-// The counts, read: the sections' places, or the section at fault.
+// A description's fault: the section, and the record's number or SECTION.
 #[derive(Clone, Copy)]
-pub enum LayoutResult {
-    At(Layout),
-    Fault(usize),
-}
-
-// The judgement of a description: its sections' places, or its fault.
-#[derive(Clone, Copy)]
-pub enum Checked {
-    Good(Layout),
-    Fault { section: usize, record: usize },
+pub struct Fault {
+    pub section: usize,
+    pub number: usize,
 }
 
 // A place in the description.
@@ -191,82 +184,38 @@ pub struct Cursor {
     pub at: usize,
 }
 
-// A section's count, read, and the cursor behind the section's records.
+// Where an expression stands.
 #[derive(Clone, Copy)]
-pub enum Counted {
-    Found(Section, Cursor),
-    Missing,
+pub struct Place {
+    pub at: usize,
 }
 
-// A record, read, and the cursor behind it.
+// What was read at a cursor, and the cursor behind it.
 #[derive(Clone, Copy)]
-pub struct FieldRead {
-    pub field: Field,
+pub struct Read<T> {
+    pub value: T,
     pub next: Cursor,
-}
-
-#[derive(Clone, Copy)]
-pub struct NameRead {
-    pub name: Name,
-    pub next: Cursor,
-}
-
-#[derive(Clone, Copy)]
-pub struct ConstructorRead {
-    pub constructor: Constructor,
-    pub next: Cursor,
-}
-
-#[derive(Clone, Copy)]
-pub struct OperandRead {
-    pub operand: Operand,
-    pub next: Cursor,
-}
-
-#[derive(Clone, Copy)]
-pub struct PieceRead {
-    pub piece: Piece,
-    pub next: Cursor,
-}
-
-#[derive(Clone, Copy)]
-pub struct LetterRead {
-    pub letter: u8,
-    pub next: Cursor,
-}
-
-// An expression is read by its place, step by step.
-#[derive(Clone, Copy)]
-pub struct ExpressionRead {
-    pub place: usize,
-    pub next: Cursor,
-}
-
-fn wide(x: u8) -> u16
-    ensures { (result ≡ x) × (result < 256) }
-{
-    x as u16
 }
 
 pub fn word(s: &[u8], at: usize) -> u16
     requires { at + 2 ≤ length s.now }
     ensures { result ≡ u16_at s.now at }
 {
-    wide(s[at]) + 256 * wide(s[at + 1])
+    u16::from_le_bytes([s[at], s[at + 1]])
 }
 
 pub fn long(s: &[u8], at: usize) -> u32
     requires { at + 4 ≤ length s.now }
     ensures { result ≡ u32_at s.now at }
 {
-    (word(s, at) as u32) + 65536 * (word(s, at + 2) as u32)
+    u32::from(word(s, at)) + 65536 * u32::from(word(s, at + 2))
 }
 
 pub fn quad(s: &[u8], at: usize) -> u64
     requires { at + 8 ≤ length s.now }
     ensures { result ≡ u64_at s.now at }
 {
-    (long(s, at) as u64) + 4294967296 * (long(s, at + 4) as u64)
+    u64::from(long(s, at)) + 4294967296 * u64::from(long(s, at + 4))
 }
 
 // The pattern of the constructor at this place.
@@ -283,40 +232,70 @@ pub fn pattern_at(s: &[u8], at: usize) -> Pattern
 }
 
 impl Cursor {
-    // A section's count: there, in its limits, and followed by its records.
-    pub fn count(self, s: &[u8], least: u16, most: u16, size: u8) -> Counted
+    // A section's count and place, if the count is there, in its limits, and followed by its records.
+    #[tactic(auto, using(crate::proofs::Product::small), unfolding(crate::specs::Layout::section_at))]
+    pub fn count(self, s: &[u8], least: u16, most: u16, size: u8) -> Option<Read<Section>>
         ensures { result ≡ section_at s.now self.at least most size }
     {
         let at = self.at;
         if s.len() < COUNT_BYTES {
-            return Counted::Missing;
+            return None;
         }
         if s.len() - COUNT_BYTES < at {
-            return Counted::Missing;
+            return None;
         }
         let n = word(s, at);
         let start = at + COUNT_BYTES;
         let end = start + (n as usize) * (size as usize);
         let whole = (least <= n) & (n <= most) & (end <= s.len());
         if whole {
-            Counted::Found(
-                Section {
+            Some(Read {
+                value: Section {
                     start,
                     count: n as usize,
                 },
-                Cursor { at: end },
-            )
+                next: Cursor { at: end },
+            })
         } else {
-            Counted::Missing
+            None
         }
     }
 
-    pub fn field(self, s: &[u8]) -> FieldRead
-        requires { self.at + field_bytes ≤ length s.now }
-        ensures { result ≡ field_read s.now self.at }
+    pub fn read<T: Record>(self, s: &[u8]) -> Read<T>
+        requires { self.at + T.BYTES ≤ length s.now }
+        ensures { result ≡ read_at T.reading T.BYTES s.now self.at }
     {
         let at = self.at;
-        let field = Field {
+        Read {
+            value: T::read(s, at),
+            next: Cursor { at: at + T::BYTES },
+        }
+    }
+}
+
+// What a section holds, so many bytes for each.
+pub trait Record {
+    // The record at a place.
+    ghost reading: { List ℕ → ℕ → Self };
+
+    ghost BYTES: { ℕ };
+
+    const BYTES: usize;
+
+    fn read(s: &[u8], at: usize) -> Self
+        requires { at + BYTES ≤ length s.now }
+        ensures { result ≡ reading s.now at };
+}
+
+impl Record for Field {
+    ghost reading = { field_at };
+
+    ghost BYTES = { field_bytes };
+
+    const BYTES: usize = FIELD_BYTES as usize;
+
+    fn read(s: &[u8], at: usize) -> Field {
+        Field {
             source: s[at],
             width: s[at + 1],
             order: s[at + 2],
@@ -324,38 +303,33 @@ impl Cursor {
             high: s[at + 4],
             look: s[at + 5],
             first: word(s, at + 6),
-        };
-        FieldRead {
-            field,
-            next: Cursor {
-                at: at + (FIELD_BYTES as usize),
-            },
         }
     }
+}
 
-    pub fn name(self, s: &[u8]) -> NameRead
-        requires { self.at + name_bytes ≤ length s.now }
-        ensures { result ≡ name_read s.now self.at }
-    {
-        let at = self.at;
-        let name = Name {
+impl Record for Name {
+    ghost reading = { name_at };
+
+    ghost BYTES = { name_bytes };
+
+    const BYTES: usize = NAME_BYTES as usize;
+
+    fn read(s: &[u8], at: usize) -> Name {
+        Name {
             offset: word(s, at),
             length: s[at + 2],
-        };
-        NameRead {
-            name,
-            next: Cursor {
-                at: at + (NAME_BYTES as usize),
-            },
         }
     }
+}
 
-    pub fn constructor(self, s: &[u8]) -> ConstructorRead
-        requires { self.at + constructor_bytes ≤ length s.now }
-        ensures { result ≡ constructor_read s.now self.at }
-    {
-        let at = self.at;
-        let pattern = pattern_at(s, at);
+impl Record for Constructor {
+    ghost reading = { constructor_at };
+
+    ghost BYTES = { constructor_bytes };
+
+    const BYTES: usize = CONSTRUCTOR_BYTES as usize;
+
+    fn read(s: &[u8], at: usize) -> Constructor {
         let operands = Range {
             count: s[at + 26],
             first: word(s, at + 27),
@@ -364,81 +338,71 @@ impl Cursor {
             count: s[at + 29],
             first: word(s, at + 30),
         };
-        let constructor = Constructor {
+        Constructor {
             table: s[at],
             minimum: s[at + 1],
-            pattern,
+            pattern: pattern_at(s, at),
             operands,
             pieces,
-        };
-        ConstructorRead {
-            constructor,
-            next: Cursor {
-                at: at + (CONSTRUCTOR_BYTES as usize),
-            },
         }
     }
+}
 
-    pub fn operand(self, s: &[u8]) -> OperandRead
-        requires { self.at + operand_bytes ≤ length s.now }
-        ensures { result ≡ operand_read s.now self.at }
-    {
-        let at = self.at;
-        let operand = Operand {
+impl Record for Operand {
+    ghost reading = { operand_at };
+
+    ghost BYTES = { operand_bytes };
+
+    const BYTES: usize = OPERAND_BYTES as usize;
+
+    fn read(s: &[u8], at: usize) -> Operand {
+        Operand {
             kind: s[at],
             index: s[at + 1],
             anchor: s[at + 2],
             offset: s[at + 3],
-        };
-        OperandRead {
-            operand,
-            next: Cursor {
-                at: at + (OPERAND_BYTES as usize),
-            },
         }
     }
+}
 
-    pub fn piece(self, s: &[u8]) -> PieceRead
-        requires { self.at + piece_bytes ≤ length s.now }
-        ensures { result ≡ piece_read s.now self.at }
-    {
-        let at = self.at;
-        let piece = Piece {
+impl Record for Piece {
+    ghost reading = { piece_at };
+
+    ghost BYTES = { piece_bytes };
+
+    const BYTES: usize = PIECE_BYTES as usize;
+
+    fn read(s: &[u8], at: usize) -> Piece {
+        Piece {
             kind: s[at],
             n: s[at + 1],
             offset: word(s, at + 2),
-        };
-        PieceRead {
-            piece,
-            next: Cursor {
-                at: at + (PIECE_BYTES as usize),
-            },
         }
     }
+}
 
-    pub fn letter(self, s: &[u8]) -> LetterRead
-        requires { self.at + letter_bytes ≤ length s.now }
-        ensures { result ≡ letter_read s.now self.at }
-    {
-        let at = self.at;
-        LetterRead {
-            letter: s[at],
-            next: Cursor {
-                at: at + (LETTER_BYTES as usize),
-            },
-        }
+// A letter of the text.
+impl Record for u8 {
+    ghost reading = { byte_at };
+
+    ghost BYTES = { letter_bytes };
+
+    const BYTES: usize = LETTER_BYTES as usize;
+
+    fn read(s: &[u8], at: usize) -> u8 {
+        s[at]
     }
+}
 
-    pub fn expression(self, s: &[u8]) -> ExpressionRead
-        requires { self.at + expression_bytes ≤ length s.now }
-        ensures { result ≡ expression_read self.at }
-    {
-        let at = self.at;
-        ExpressionRead {
-            place: at,
-            next: Cursor {
-                at: at + (EXPRESSION_BYTES as usize),
-            },
-        }
+// An expression is read by its place, step by step.
+impl Record for Place {
+    ghost reading = { place_at };
+
+    ghost BYTES = { expression_bytes };
+
+    const BYTES: usize = EXPRESSION_BYTES as usize;
+
+    fn read(_s: &[u8], at: usize) -> Place {
+        Place { at }
     }
 }

@@ -4,7 +4,7 @@ use mathlib.Core.List.{List, []}
 use mathlib.Core.Path.{◌≡◌, refl, sym, ap, subst, ◌∙◌}
 use native.Mathlib.Omega.{arith}
 use lib.IntN.{ℤ, pos}
-use lib.ListN.{length, get_or, drop, replicate}
+use lib.ListN.{length, drop, replicate}
 use Rattle.format.specs.Numbers.{longest}
 use Rattle.format.specs.Description.{Description}
 use Rattle.format.proofs.Lists.{expressions-length}
@@ -17,17 +17,17 @@ use Rattle.decoding_spec.specs.declared.Refusal.{Refusal}
 use Rattle.decoding_spec.specs.declared.Refusal.TheVariants.{ValueOutside}
 use Rattle.decoding_theorems.proofs.InBounds.{walked-bounds, walked-rows}
 use Rattle.decoding_theorems.proofs.Shapes.{walked-shaped, walked-built, without-expressions}
-use Rattle.setting.specs.Fixed.{Fixed, setting_in, layout_in}
+use Rattle.setting.specs.Fixed.{Fixed, setting_in}
 use Rattle.setting.proofs.Laws.{obeyed-in, fixed-for, setting-for}
+use Rattle.setting.specs.declared.Prepared.{Prepared}
 use Rattle.walk_steps.specs.Scratch.{scratch_length, sized_of, written}
-use Rattle.walk_steps.specs.Steps.{answer_of}
+use Rattle.walk_steps.specs.Steps.{Walked, arrived, answer_of}
 use Rattle.walking.specs.Walks.{Instruction, leaving, no_rows, instruction_as, walked_at, told_length}
-use Rattle.walk_steps.specs.declared.Walked.{Walked}
-use Rattle.walk_steps.specs.declared.Walked.TheVariants.{Done, Refused}
+use Rattle.std.specs.Prelude.{Ok, Err}
+use Rattle.std.specs.Prelude as std
+use Rattle.walk_steps.specs.declared.Walk.{Walk}
 use Rattle.instructions.specs.Settling.{settled_from, valued_as, settled_walk}
 use Rattle.instructions.specs.Instructions.{ReadableRows, Settleable, Settles, result_at}
-use Rattle.instructions.specs.declared.Settled.{Settled}
-use Rattle.instructions.specs.declared.Settled.TheVariants.{AllInside, OutsideAt}
 use Rattle.instructions.proofs.SettledTree.{settled-tree}
 use Rattle.instructions.proofs.InstructionRows.{sized-length}
 use Rattle.instructions.proofs.Readable.{readable-tree}
@@ -39,14 +39,14 @@ pub walked-of : (r : Result Node) → (instruction_as r).walked ≡ answer_of r
 walked-of (done n l st) = refl
 walked-of (refused x) = refl
 
-module _ (b a s : List ℕ) (at c address : ℕ) (f : Fixed b a) where
+module _ (b : List ℕ) (a : Prepared) (s : List ℕ) (at c address : ℕ) (f : Fixed b a) where
   abbrev d : Description
   d = (setting_in b a).description
 
   -- "A description may end after six sections"
-  pub none-computed : get_or a 13 0 ≡ 0 → walked_at b a s at c ≡ result_at b a s at c address
+  pub none-computed : a.layout.expressions.count ≡ 0 → walked_at b a s at c ≡ result_at b a s at c address
   unfolding walked_at result_at setting_in
-  none-computed z = sym (without-expressions d (obeyed-in b a f) (expressions-length b (layout_in a) ∙ z) c (address + at) (drop at s))
+  none-computed z = sym (without-expressions d (obeyed-in b a f) (expressions-length b a.layout ∙ z) c (address + at) (drop at s))
 
   completes : result_at b a s at c address ≡ completed d (address + at) (walked_at b a s at c)
   unfolding result_at walked_at instruction_of
@@ -57,12 +57,12 @@ module _ (b a s : List ℕ) (at c address : ℕ) (f : Fixed b a) where
     walked-is = ap (λ (x : Instruction). x.walked) is ∙ walked-of (walked_at b a s at c)
 
     -- a refusal of the walk is the instruction's
-    stays-refused : (x : Refusal) → i.walked ≡ Refused x → i ≡ instruction_as (result_at b a s at c address)
+    stays-refused : (x : Refusal) → i.walked ≡ Err x → i ≡ instruction_as (result_at b a s at c address)
     unfolding completed
     stays-refused x e = is ∙ go (walked_at b a s at c) refl (sym walked-is ∙ e)
       where
-        go : (r : Result Node) → walked_at b a s at c ≡ r → answer_of r ≡ Refused x → instruction_as (walked_at b a s at c) ≡ instruction_as (result_at b a s at c address)
-        go (done n l st) p q = let z : ◌≡◌ {A = ℕ} 0 1 = cc in absurd (omega arith)
+        go : (r : Result Node) → walked_at b a s at c ≡ r → answer_of r ≡ Err x → instruction_as (walked_at b a s at c) ≡ instruction_as (result_at b a s at c address)
+        go (done n l st) p q = cc
         go (refused y) p q = ap instruction_as (p ∙ sym (ap (completed d (address + at)) p)) ∙ ap instruction_as (sym completes)
 
     -- what a done walk has left
@@ -72,14 +72,15 @@ module _ (b a s : List ℕ) (at c address : ℕ) (f : Fixed b a) where
       rows : i.rows ≡ written 0 (sized_of tree) empty
       used : st.used ≡ length (sized_of tree)
 
-    left : (l : ℕ) (st : State) → i.walked ≡ Done st l → Left l st
+    left : (l : ℕ) (st : State) → i.walked ≡ arrived st l → Left l st
     unfolding walked_at
     left l st e = go (walked_at b a s at c) refl (sym walked-is ∙ e)
       where
-        go : (r : Result Node) → walked_at b a s at c ≡ r → answer_of r ≡ Done st l → Left l st
+        go : (r : Result Node) → walked_at b a s at c ≡ r → answer_of r ≡ arrived st l → Left l st
         go (done n m x) p q =
-            let st-is : x ≡ st = cc in
-            let l-is : m ≡ l = cc in
+            let same : ◌≡◌ {A = Walk} (record { state = x; length = m }) (record { state = st; length = l }) = cc q in
+            let st-is : x ≡ st = ap (λ (v : Walk). v.state) same in
+            let l-is : m ≡ l = ap (λ (v : Walk). v.length) same in
             let r : walked_of d c (drop at s) ≡ done n l st = p ∙ rw (st-is, l-is) in
             record {
               tree = n;
@@ -87,7 +88,7 @@ module _ (b a s : List ℕ) (at c address : ℕ) (f : Fixed b a) where
               rows = ap (λ (y : Instruction). y.rows) (is ∙ ap instruction_as p);
               used = walked-rows d c (drop at s) n l st r ∙ sym (sized-length n);
             }
-        go (refused y) p q = let z : ◌≡◌ {A = ℕ} 0 1 = cc in absurd (omega arith)
+        go (refused y) p q = cc
 
     module _ (l : ℕ) (st : State) (w : Left l st) where
       readable : ReadableRows d i.rows st.used
@@ -108,10 +109,10 @@ module _ (b a s : List ℕ) (at c address : ℕ) (f : Fixed b a) where
       unfolding completed walked_at
       whole = completes ∙ ap (completed d (address + at)) w.result
 
-      valued-here : valued_as (Done st l) (settled_from d (address + at) (address + at + l) i.rows 0 st.used) ≡ instruction_as (result_at b a s at c address)
+      valued-here : valued_as (arrived st l) (settled_from d (address + at) (address + at + l) i.rows 0 st.used) ≡ instruction_as (result_at b a s at c address)
       valued-here = rw (settled, whole) (go (with_values d (address + at) (address + at + l) [] w.tree))
         where
-          go : (v : Valued Node) → valued_as (Done st l) (where_inside v (λ m. valued (written 0 (sized_of m) empty))) ≡ instruction_as (ended l st v)
+          go : (v : Valued Node) → valued_as (arrived st l) (where_inside v (λ m. valued (written 0 (sized_of m) empty))) ≡ instruction_as (ended l st v)
           go (valued m) = refl
           go (outside p) = refl
 
@@ -121,28 +122,31 @@ module _ (b a s : List ℕ) (at c address : ℕ) (f : Fixed b a) where
 
   -- a walk's answer and rows can have their values put in, and are the instruction then
   pub settleable : (w : Walked) (rows : List ℤ) → leaving w rows ≡ instruction_as (walked_at b a s at c) → Settleable (setting_in b a).description w rows
-  settleable (Done st l) rows is = let x = left (leaving (Done st l) rows) is l st refl in (readable (leaving (Done st l) rows) is l st x, near (leaving (Done st l) rows) is l st x)
-  settleable (Refused x) rows is = tt
+  settleable (Ok w) rows is =
+      let x = left (leaving (Ok w) rows) is w.length w.state refl in
+      (readable (leaving (Ok w) rows) is w.length w.state x, near (leaving (Ok w) rows) is w.length w.state x)
+  settleable (Err x) rows is = tt
 
   pub settles-all : (w : Walked) (rows : List ℤ) → leaving w rows ≡ instruction_as (walked_at b a s at c)
       → settled_walk (setting_in b a).description (address + at) w rows ≡ instruction_as (result_at b a s at c address)
-  settles-all (Done st l) rows is = valued-here (leaving (Done st l) rows) is l st (left (leaving (Done st l) rows) is l st refl)
-  settles-all (Refused x) rows is = stays-refused (leaving (Refused x) rows) is x refl
+  settles-all (Ok w) rows is =
+      valued-here (leaving (Ok w) rows) is w.length w.state (left (leaving (Ok w) rows) is w.length w.state refl)
+  settles-all (Err x) rows is = stays-refused (leaving (Err x) rows) is x refl
 
 -- .. put in by the code
-pub settled-inside : (v : Valued (List ℤ)) (w : Walked) (r : Settled) (new : List ℤ) → Settles v r new → r ≡ AllInside → leaving w new ≡ valued_as w v
+pub settled-inside : (v : Valued (List ℤ)) (w : Walked) (r : std.Result (Unit {0}) Refusal) (new : List ℤ) → Settles v r new → r ≡ Ok tt → leaving w new ≡ valued_as w v
 settled-inside (valued rows) w r new h e = ap (leaving w) h.1
-settled-inside (outside p) w r new h e = let z : ◌≡◌ {A = ℕ} 0 1 = cc in absurd (omega arith)
+settled-inside (outside p) w r new h e = cc
 
-pub settled-outside : (v : Valued (List ℤ)) (w : Walked) (r : Settled) (new : List ℤ) → Settles v r new → (p : ℕ) → r ≡ OutsideAt p
-    → leaving (Refused (ValueOutside p)) no_rows ≡ valued_as w v
-settled-outside (valued rows) w r new h p e = let z : ◌≡◌ {A = ℕ} 0 1 = cc h.0 in absurd (omega arith)
-settled-outside (outside q) w r new h p e = let z : p ≡ q = cc in rw z
+pub settled-outside : (v : Valued (List ℤ)) (w : Walked) (r : std.Result (Unit {0}) Refusal) (new : List ℤ) → Settles v r new → (x : Refusal) → r ≡ Err x
+    → leaving (Err x) no_rows ≡ valued_as w v
+settled-outside (valued rows) w r new h x e = cc h.0
+settled-outside (outside q) w r new h x e = let z : ValueOutside q ≡ x = cc in rw (← z)
 
 -- told the length of the code from the place on, the numbers are of the same description
-module _ (b a s : List ℕ) (at : ℕ) (f : Fixed b a) (a' : List ℕ) (told : a' ≡ told_length a s at) where
+module _ (b : List ℕ) (a : Prepared) (s : List ℕ) (at : ℕ) (f : Fixed b a) (a' : Prepared) (told : a' ≡ told_length a s at) where
   pub told_fixed : Fixed b a'
   told_fixed = rw told (fixed-for b a (length s - at) f)
 
   pub told_same : (setting_in b a').description ≡ (setting_in b a).description
-  told_same = rw told (ap (λ (g : Setting). g.description) (setting-for b a (length s - at) (omega (arith, f.long))))
+  told_same = rw told (ap (λ (g : Setting). g.description) (setting-for b a (length s - at)))

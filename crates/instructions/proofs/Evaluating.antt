@@ -12,8 +12,7 @@ use lib.ListN.{length, get_or, set}
 use Rattle.format.specs.Numbers.{operands_each}
 use Rattle.format.specs.Description.{Description}
 use Rattle.format.specs.Expression.{expression_at, no_expression}
-use Rattle.whole_numbers.specs.declared.Whole.{Whole}
-use Rattle.whole_numbers.specs.declared.Whole.TheVariants as whole
+use Rattle.std.specs.Prelude.{Option, Some, None, Result, Ok, Err}
 use Rattle.whole_numbers.proofs.Kept.{inside-mag}
 use Rattle.expressions.specs.Value.{given, value_of, Usable}
 use Rattle.expressions.proofs.Records.{written}
@@ -22,12 +21,13 @@ use Rattle.decoding_spec.specs.Instruction.{Valued, valued, outside, where_insid
 use Rattle.decoding_theorems.proofs.Records.{expression-ok}
 use Rattle.setting.specs.Fixed.{setting_in, expression_start}
 use Rattle.setting.proofs.Laws.{obeyed-in, expression-in, expression-inside}
+use Rattle.setting.specs.declared.Prepared.{Prepared}
 use Rattle.walk_steps.specs.Scratch.{scratch_numbers}
 use Rattle.scratch_rows.specs.Places.{kind_at, number_at, start_at, size_at}
 use Rattle.instructions.specs.Settling.{with_value, owner_below, count_at, counts_from, counts_at, computed_at, settled_at, settled_from}
 use Rattle.instructions.specs.Instructions.{ReadableRows, RowOf, Settles}
-use Rattle.instructions.specs.declared.Settled.{Settled}
-use Rattle.instructions.specs.declared.Settled.TheVariants.{AllInside, OutsideAt}
+use Rattle.decoding_spec.specs.declared.Refusal.{Refusal}
+use Rattle.decoding_spec.specs.declared.Refusal.TheVariants.{ValueOutside}
 use Rattle.instructions.proofs.Alike.{Alike, alike_same, alike_set}
 
 counts-length : (d : Description) (rows : List ℤ) (row end left : ℕ) → length (counts_from d rows row end left) ≡ left
@@ -40,12 +40,12 @@ counts-length d rows row end (suc left) = go (ltb row end) (counts-length d rows
     go true a b = ap suc a
     go false a b = ap suc b
 
-module _ (b a : List ℕ) (rows : List ℤ) (used row : ℕ) (of : RowOf b a rows used row) (three : kind_at rows row ≡ 3) where
+module _ (b : List ℕ) (a : Prepared) (rows : List ℤ) (used row : ℕ) (of : RowOf b a rows used row) (three : kind_at rows row ≡ 3) where
   pub index-inside : number_at rows row < length (setting_in b a).description.expressions
   index-inside = (of.readable.row row of.within).expression three
 
   -- a value that is given is a signed 64-bit number
-  pub computed-small : (here after : ℕ) (v : ℤ) → computed_at (setting_in b a).description here after rows row ≡ whole.Value v → mag v < 2 ^ 63
+  pub computed-small : (here after : ℕ) (v : ℤ) → computed_at (setting_in b a).description here after rows row ≡ Some v → mag v < 2 ^ 63
   unfolding computed_at
   computed-small here after v e =
       let x = get_or (setting_in b a).description.expressions (number_at rows row) no_expression in
@@ -92,19 +92,19 @@ readable-alike d a b used long h r =
     }
 
 module _ (d : Description) (here after : ℕ) (rows : List ℤ) (row : ℕ) where
-  abbrev Comes : Settled → List ℤ → Type 0
+  abbrev Comes : Result (Unit {0}) Refusal → List ℤ → Type 0
   Comes r new = Settles (settled_at d here after rows row) r new
 
-  pub settle-plain : (kind_at rows row ≡ 3 → ⊥) → Comes AllInside rows
+  pub settle-plain : (kind_at rows row ≡ 3 → ⊥) → Comes (Ok tt) rows
   unfolding settled_at
   settle-plain k = rw (ne_eqb (kind_at rows row) 3 k) (refl, refl)
 
-  module _ (three : kind_at rows row ≡ 3) (w : Whole) (is : w ≡ computed_at d here after rows row) where
-    pub settle-outside : w ≡ whole.Outside → (new : List ℤ) (place : ℕ) → place ≡ start_at rows row → Comes (OutsideAt place) new
+  module _ (three : kind_at rows row ≡ 3) (w : Option ℤ) (is : w ≡ computed_at d here after rows row) where
+    pub settle-outside : w ≡ None → (new : List ℤ) (place : ℕ) → place ≡ start_at rows row → Comes (Err (ValueOutside place)) new
     unfolding settled_at
-    settle-outside e new place p = rw (eq-eqb (kind_at rows row) 3 three, ← is, e) (ap OutsideAt p)
+    settle-outside e new place p = rw (eq-eqb (kind_at rows row) 3 three, ← is, e) (ap (λ (k : ℕ). Err (ValueOutside k)) p)
 
-    pub settle_value : (v : ℤ) → w ≡ whole.Value v → Comes AllInside (set rows (scratch_numbers * row + 3) v)
+    pub settle_value : (v : ℤ) → w ≡ Some v → Comes (Ok tt) (set rows (scratch_numbers * row + 3) v)
     unfolding settled_at
     settle_value v e = rw (eq-eqb (kind_at rows row) 3 three, ← is, e) (refl, refl)
 
@@ -119,11 +119,11 @@ pub settled-none : (d : Description) (here after used : ℕ) (old : List ℤ) �
 settled-none d here after used old r = let z : used - 0 ≡ used = omega arith in record { few = omega arith; whole = rw z; readable = r; kept = refl }
 
 module _ (d : Description) (here after used : ℕ) (old now : List ℤ) (row : ℕ) (s : SettledTo d here after used old now row) where
-  pub settled-all : used ≤ row → Settles (settled_from d here after old 0 used) AllInside now
+  pub settled-all : used ≤ row → Settles (settled_from d here after old 0 used) (Ok tt) now
   unfolding settled_from
   settled-all h = let z : used - row ≡ 0 = omega arith in rw (← s.whole, z) (refl, refl)
 
-  module _ (h : row < used) (r : Settled) (new : List ℤ) (settles : Settles (settled_at d here after now row) r new) where
+  module _ (h : row < used) (r : Result (Unit {0}) Refusal) (new : List ℤ) (settles : Settles (settled_at d here after now row) r new) where
     left : used - row ≡ suc (used - (row + 1))
     left = omega arith
 
@@ -131,22 +131,22 @@ module _ (d : Description) (here after used : ℕ) (old now : List ℤ) (row : �
     unfolding settled_from
     step = sym s.whole ∙ ap (settled_from d here after now row) left
 
-    pub settled-stop : (p : ℕ) → r ≡ OutsideAt p → (end : List ℤ) → Settles (settled_from d here after old 0 used) (OutsideAt p) end
-    settled-stop p e end = rw step (go (settled_at d here after now row) settles)
+    pub settled-stop : (x : Refusal) → r ≡ Err x → (end : List ℤ) → Settles (settled_from d here after old 0 used) (Err x) end
+    settled-stop x e end = rw step (go (settled_at d here after now row) settles)
       where
-        go : (v : Valued (List ℤ)) → Settles v r new → Settles (where_inside v (λ rows. settled_from d here after rows (row + 1) (used - (row + 1)))) (OutsideAt p) end
-        go (valued rows) q = let z : ◌≡◌ {A = ℕ} 0 1 = cc q.0 in absurd (omega arith)
-        go (outside x) q = sym e ∙ q
+        go : (v : Valued (List ℤ)) → Settles v r new → Settles (where_inside v (λ rows. settled_from d here after rows (row + 1) (used - (row + 1)))) (Err x) end
+        go (valued rows) q = cc q.0
+        go (outside p) q = sym e ∙ q
 
-    pub settled-next : r ≡ AllInside → length new ≡ length now → SettledTo d here after used old new (row + 1)
+    pub settled-next : r ≡ Ok tt → length new ≡ length now → SettledTo d here after used old new (row + 1)
     unfolding settled_at
     settled-next e long = go (settled_at d here after now row) refl settles
       where
-        alike : (w : Whole) (t : Bool) → eqb (kind_at now row) 3 ≡ t → cond t (with_value now row w) (valued now) ≡ valued new → Alike now new
-        alike (whole.Value v) true p q =
+        alike : (w : Option ℤ) (t : Bool) → eqb (kind_at now row) 3 ≡ t → cond t (with_value now row w) (valued now) ≡ valued new → Alike now new
+        alike (Some v) true p q =
             let z : set now (scratch_numbers * row + 3) v ≡ new = cc in
             rw (← z) (alike_set now now row v (alike_same now) (eqb-true (kind_at now row) 3 p))
-        alike whole.Outside true p q = let z : ◌≡◌ {A = ℕ} 0 1 = cc in absurd (omega arith)
+        alike None true p q = cc
         alike w false p q = let z : now ≡ new = cc in rw (← z) (alike_same now)
 
         go : (v : Valued (List ℤ)) → settled_at d here after now row ≡ v → Settles v r new → SettledTo d here after used old new (row + 1)
@@ -158,4 +158,4 @@ module _ (d : Description) (here after used : ℕ) (old now : List ℤ) (row : �
               readable = readable-alike d now new used long (alike (computed_at d here after now row) (eqb (kind_at now row) 3) refl same) s.readable;
               kept = long ∙ s.kept;
             }
-        go (outside x) p q = let z : ◌≡◌ {A = ℕ} 0 1 = cc in absurd (omega arith)
+        go (outside x) p q = cc

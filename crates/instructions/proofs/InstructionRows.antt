@@ -18,10 +18,13 @@ use Rattle.decoding_spec.specs.declared.Refusal.{Refusal}
 use Rattle.decoding_theorems.proofs.InBounds.{in_bounds, used-rows}
 use Rattle.setting.specs.Fixed.{fixed_of}
 use Rattle.setting.proofs.Laws.{setting-of}
+use Rattle.setting.specs.declared.Prepared.{Prepared}
 use Rattle.walk_steps.specs.Scratch.{scratch_numbers, scratch_length, SizedRow, sized_of, sized_of_all, scratch_of, put_at, written}
 use Rattle.walking.specs.Walks.{Instruction, instruction_as}
 use Rattle.instructions.specs.Instructions.{result_at}
-use Rattle.walk_steps.specs.declared.Walked.TheVariants.{Done, Refused}
+use Rattle.std.specs.Prelude.{Err}
+use Rattle.walk_steps.specs.declared.Walk.{Walk}
+use Rattle.walk_steps.specs.Steps.{arrived}
 use Rattle.walk_steps.proofs.Writing.{scratch-length}
 
 -- the rows without their sizes
@@ -60,11 +63,11 @@ unfolding written put_at
 rows-first n few = take_at (scratch_of (sized_of n)) _ (scratch_numbers * length (rows_of n)) (scratch-length (sized_of n) ∙ ap (λ (k : ℕ). scratch_numbers * k) (sized-length n))
 
 module _ (d : Description) (c a : ℕ) (s : List ℕ) (i : Instruction) (is : i ≡ instruction_as (instruction_of d c a s)) where
-  pub was-refused : (r : Refusal) → i.walked ≡ Refused r → instruction_of d c a s ≡ refused r
+  pub was-refused : (r : Refusal) → i.walked ≡ Err r → instruction_of d c a s ≡ refused r
   was-refused r e = go (instruction_of d c a s) (ap (λ (x : Instruction). x.walked) is)
     where
       go : (q : Result Node) → i.walked ≡ (instruction_as q).walked → q ≡ refused r
-      go (done n l st) h = let z : ◌≡◌ {A = ℕ} 0 1 = cc in absurd (omega arith)
+      go (done n l st) h = cc
       go (refused x) h = let z : x ≡ r = cc in ap refused z
 
   -- what a done instruction is: its tree, and its rows in the scratch
@@ -75,14 +78,15 @@ module _ (d : Description) (c a : ℕ) (s : List ℕ) (i : Instruction) (is : i 
     pub count : st.used ≡ length (rows_of tree)
     pub few : length (rows_of tree) ≤ most_rows
 
-  pub was-done : (l : ℕ) (st : State) → i.walked ≡ Done st l → Whole l st
+  pub was-done : (l : ℕ) (st : State) → i.walked ≡ arrived st l → Whole l st
   was-done l st e = go (instruction_of d c a s) refl
     where
       go : (q : Result Node) → instruction_of d c a s ≡ q → Whole l st
       go (done n m x) h =
-          let w : i.walked ≡ Done x m = ap (λ (y : Instruction). y.walked) (is ∙ ap instruction_as h) in
-          let p : x ≡ st = cc in
-          let q : m ≡ l = cc in
+          let w : i.walked ≡ arrived x m = ap (λ (y : Instruction). y.walked) (is ∙ ap instruction_as h) in
+          let same : ◌≡◌ {A = Walk} (record { state = x; length = m }) (record { state = st; length = l }) = cc in
+          let p : x ≡ st = ap (λ (v : Walk). v.state) same in
+          let q : m ≡ l = ap (λ (v : Walk). v.length) same in
           let r : instruction_of d c a s ≡ done n l st = h ∙ rw (p, q) in
           record {
             tree = n;
@@ -92,11 +96,11 @@ module _ (d : Description) (c a : ℕ) (s : List ℕ) (i : Instruction) (is : i 
             few = (in_bounds d c a s n l st r).few;
           }
       go (refused x) h =
-          let w : i.walked ≡ Refused x = ap (λ (y : Instruction). y.walked) (is ∙ ap instruction_as h) in
-          let z : ◌≡◌ {A = ℕ} 0 1 = cc in absurd (omega arith)
+          let w : i.walked ≡ Err x = ap (λ (y : Instruction). y.walked) (is ∙ ap instruction_as h) in
+          cc
 
 -- the instruction at the code's start, by the numbers of a description
-pub first-here : (b : List ℕ) (l : Layout) (a s : List ℕ) (gather : Bool) (c address : ℕ) → a ≡ fixed_of (description b l) l gather
+pub first-here : (b : List ℕ) (l : Layout) (a : Prepared) (s : List ℕ) (gather : Bool) (c address : ℕ) → a ≡ fixed_of (description b l) l gather
     → result_at b a s 0 c address ≡ instruction_of (description b l) c address s
 unfolding result_at
 first-here b l a s gather c address e = let z : address + 0 ≡ address = omega arith in rw (e, setting-of b l gather, z)

@@ -14,8 +14,7 @@ use Rattle.format.specs.Numbers.{operands_each}
 use Rattle.format.specs.Description.{Description}
 use Rattle.format.specs.Expression.{no_expression}
 use Rattle.format.proofs.Formation.{RulesHold}
-use Rattle.whole_numbers.specs.declared.Whole.{Whole}
-use Rattle.whole_numbers.specs.declared.Whole.TheVariants as whole
+use Rattle.std.specs.Prelude.{Option, Some, None}
 use Rattle.decoding_spec.specs.Tree.{Node, Nodes, built, numbered, named, computed, none, more}
 use Rattle.decoding_spec.specs.Instruction.{Valued, valued, outside, where_inside, computed_as, counts_of, expression_value, with_values, with_values_all}
 use Rattle.decoding_theorems.specs.Facts.{Built, Shaped, ShapedAll, count_of}
@@ -31,11 +30,11 @@ use Rattle.instructions.proofs.Owners.{owner-is, part-ends, counts-are}
 
 -- ---- rows with their values, where each row's value is given by its place
 
-abbrev value_row : SizedRow → Whole → Valued SizedRow
-value_row x (whole.Value v) = valued (sized x.row.kind x.row.number x.row.start v x.size)
-value_row x whole.Outside = outside x.row.start
+abbrev value_row : SizedRow → Option ℤ → Valued SizedRow
+value_row x (Some v) = valued (sized x.row.kind x.row.number x.row.start v x.size)
+value_row x None = outside x.row.start
 
-module _ (value : ℕ → Whole) where
+module _ (value : ℕ → Option ℤ) where
   unfoldable row_with_value : ℕ → SizedRow → Valued SizedRow
   row_with_value r x = cond (eqb x.row.kind 3) (value_row x (value r)) (valued x)
 
@@ -54,7 +53,7 @@ inside-same (outside p) f g h = refl
 
 -- ---- the tree's rows
 
-module _ (d : Description) (here after : ℕ) (value : ℕ → Whole) where
+module _ (d : Description) (here after : ℕ) (value : ℕ → Option ℤ) where
   -- the value at each computed operand's row is its expression's, for a constructor whose operands count as these
   abbrev mutual
     ValuesAt : ℕ → List ℤ → Node → Type 0
@@ -103,8 +102,8 @@ module _ (d : Description) (here after : ℕ) (value : ℕ → Whole) where
           → ((zs : List SizedRow) → rows_with_values value (r + 1) xs ≡ valued zs → length zs ≡ length xs) → rows_with_values value (r + 1) xs ≡ q
           → where_inside p (λ x. where_inside q (λ xs. valued (x ∷ xs))) ≡ valued ys → length ys ≡ length (x ∷ xs)
       go (valued y) (valued zs) same h w = let z : y ∷ zs ≡ ys = cc in rw (← z) (ap suc (same zs h))
-      go (valued y) (outside p) same h w = let z : ◌≡◌ {A = ℕ} 0 1 = cc in absurd (omega arith)
-      go (outside p) q same h w = let z : ◌≡◌ {A = ℕ} 0 1 = cc in absurd (omega arith)
+      go (valued y) (outside p) same h w = cc
+      go (outside p) q same h w = cc
 
   mutual
     unfolding sized_of sized_of_all with_values with_values_all rows_with_values row_with_value
@@ -125,9 +124,9 @@ module _ (d : Description) (here after : ℕ) (value : ℕ → Whole) where
     node-values (named i s n) r operands h = refl
     node-values (computed i s v) r operands h = rw h (go (expression_value d here after operands i))
       where
-        go : (w : Whole) → where_inside (value_row (sized 3 i s v 1) w) (λ x. valued (x ∷ [])) ≡ where_inside (computed_as i s w) (λ m. valued (sized_of m))
-        go (whole.Value u) = refl
-        go whole.Outside = refl
+        go : (w : Option ℤ) → where_inside (value_row (sized 3 i s v 1) w) (λ x. valued (x ∷ [])) ≡ where_inside (computed_as i s w) (λ m. valued (sized_of m))
+        go (Some u) = refl
+        go None = refl
 
     nodes-values : (f : Nodes) (r : ℕ) (operands : List ℤ) → ValuesAtAll r operands f
         → rows_with_values value r (sized_of_all f) ≡ where_inside (with_values_all d here after operands f) (λ g. valued (sized_of_all g))
@@ -174,7 +173,7 @@ module _ (passed : List SizedRow) (rest : List ℤ) where
   seam y (outside p) = refl
 
 module _ (d : Description) (here after : ℕ) (first : List ℤ) where
-  abbrev value : ℕ → Whole
+  abbrev value : ℕ → Option ℤ
   value r = computed_at d here after first r
 
   -- row by row
@@ -197,15 +196,15 @@ module _ (d : Description) (here after : ℕ) (first : List ℤ) where
           (y : SizedRow) (now' : List ℤ) → Alike first now' → now' ≡ scratch_of ((passed ++ (y ∷ [])) ++ xs) ++ rest
           → settled_from d here after now' (r + 1) (length xs) ≡ where_inside (rows_with_values value (r + 1) xs) (λ ys. valued (scratch_of ((passed ++ (y ∷ [])) ++ ys) ++ rest))
 
-      by_value : eqb x.row.kind 3 ≡ true → (w : Whole) → After
+      by_value : eqb x.row.kind 3 ≡ true → (w : Option ℤ) → After
           → where_inside (with_value now r w) (λ rows. settled_from d here after rows (r + 1) (length xs))
           ≡ where_inside (where_inside (value_row x w) (λ x. where_inside (rows_with_values value (r + 1) xs) (λ ys. valued (x ∷ ys)))) (cells passed rest)
-      by_value t (whole.Value v) next =
+      by_value t (Some v) next =
           next (valued_row x v) (set now (scratch_numbers * r + 3) v) (alike_set first now r v alike (kind ∙ eqb-true x.row.kind 3 t))
           (ap (λ (l : List ℤ). set l (scratch_numbers * r + 3) v) is ∙ put-value passed xs x rest r v e
           ∙ ap (λ (l : List SizedRow). scratch_of l ++ rest) (sym (append_assoc passed (valued_row x v ∷ []) xs)))
           ∙ seam passed rest (valued_row x v) (rows_with_values value (r + 1) xs)
-      by_value t whole.Outside next = ap outside (start_is now r x xs rest stands)
+      by_value t None next = ap outside (start_is now r x xs rest stands)
 
       go : (t : Bool) → eqb x.row.kind 3 ≡ t → After
           → where_inside (settled_at d here after now r) (λ rows. settled_from d here after rows (r + 1) (length xs))
@@ -219,7 +218,7 @@ module _ (d : Description) (here after : ℕ) (first : List ℤ) where
 -- ---- the values by the places are those of the tree
 
 module _ (d : Description) (o : RulesHold d) (here after : ℕ) (rows : List ℤ) where
-  abbrev worth : List ℤ → ℕ → Whole
+  abbrev worth : List ℤ → ℕ → Option ℤ
   worth operands i = expression_value d here after operands i
 
   -- whether a part has a value of its own

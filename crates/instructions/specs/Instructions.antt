@@ -1,5 +1,6 @@
 -- What the functions of this crate ask and say.
-use Rattle.std.specs.Prelude.{ℕ, ◌+◌, ◌≤◌, ◌<◌, true, List, ◌≡◌, ℤ, pos, nat_abs, length, get_or, drop}
+use Rattle.std.specs.Prelude.{ℕ, ◌+◌, ◌≤◌, ◌<◌, true, List, ◌≡◌, ℤ, pos, nat_abs, length, get_or, drop, Ok, Err}
+use Rattle.std.specs.Prelude as std
 use Rattle.format.specs.Numbers.{longest, most_rows, operands_each}
 use Rattle.format.specs.Description.{Description}
 use Rattle.format.specs.Expression.{no_expression, names_only}
@@ -8,18 +9,16 @@ use Rattle.decoding_spec.specs.Tree.{Node}
 use Rattle.decoding_spec.specs.Walk.{Result}
 use Rattle.decoding_spec.specs.Instruction.{Valued, valued, outside, instruction_of}
 use Rattle.setting.specs.Fixed.{Fixed, setting_in}
+use Rattle.setting.specs.declared.Prepared.{Prepared}
 use Rattle.walk_steps.specs.Scratch.{scratch_length}
 use Rattle.scratch_rows.specs.Places.{kind_at, number_at, start_at, last_at, size_at}
-use Rattle.walk_steps.specs.declared.Walked.{Walked}
-use Rattle.walk_steps.specs.declared.Walked.TheVariants as walked
-use Rattle.walk_steps.specs.declared.Walked.TheVariants.{Done}
-use Rattle.instructions.specs.declared.Settled.{Settled}
-use Rattle.instructions.specs.declared.Settled.TheVariants.{AllInside, OutsideAt}
+use Rattle.decoding_spec.specs.declared.Refusal.{Refusal}
+use Rattle.decoding_spec.specs.declared.Refusal.TheVariants.{ValueOutside}
+use Rattle.walk_steps.specs.Steps.{Walked}
 use Rattle.instructions.specs.declared.Stepped.{Stepped}
-use Rattle.instructions.specs.declared.Stepped.TheVariants.{Whole, Refused}
 
 -- the instruction at a place of the code, where byte 0 has this address: "no address wraps"
-unfoldable pub result_at : (b a s : List ℕ) (at c address : ℕ) → Result Node
+unfoldable pub result_at : (b : List ℕ) (a : Prepared) (s : List ℕ) (at c address : ℕ) → Result Node
 result_at b a s at c address = instruction_of (setting_in b a).description c (address + at) (drop at s)
 
 -- a row of so many can be read: its part ends among them, and its numbers are those of the description's records
@@ -37,22 +36,22 @@ pub record ReadableRows (d : Description) (rows : List ℤ) (used : ℕ) : Type 
   pub row : (r : ℕ) → r < used → ReadableRow d rows used r
 
 -- .. of the description with these bytes and numbers, and row r is one of them
-pub record RowOf (b a : List ℕ) (rows : List ℤ) (used r : ℕ) : Type 0 where
+pub record RowOf (b : List ℕ) (a : Prepared) (rows : List ℤ) (used r : ℕ) : Type 0 where
   pub fixed : Fixed b a
   pub readable : ReadableRows (setting_in b a).description rows used
   pub within : r < used
 
 -- .. as a walk leaves them, which is no longer than an instruction may be
 abbrev pub Settleable : Description → Walked → List ℤ → Type 0
-Settleable d (Done st l) rows = ReadableRows d rows st.used × (l ≤ longest)
-Settleable d (walked.Refused x) rows = Unit {0}
+Settleable d (Ok w) rows = ReadableRows d rows w.state.used × (w.length ≤ longest)
+Settleable d (Err x) rows = Unit {0}
 
 -- the rows with their values, or the place of the first that has none
-abbrev pub Settles : Valued (List ℤ) → Settled → List ℤ → Type 0
-Settles (valued rows) r new = (r ≡ AllInside) × (new ≡ rows)
-Settles (outside p) r new = r ≡ OutsideAt p
+abbrev pub Settles : Valued (List ℤ) → std.Result (Unit {0}) Refusal → List ℤ → Type 0
+Settles (valued rows) r new = (r ≡ Ok tt) × (new ≡ rows)
+Settles (outside p) r new = r ≡ Err (ValueOutside p)
 
 -- what a sweep asks of an instruction
-abbrev pub stepped_as : Walked → Stepped
-stepped_as (Done st l) = Whole l st.taken
-stepped_as (walked.Refused x) = Refused x
+abbrev pub stepped_as : Walked → std.Result Stepped Refusal
+stepped_as (Ok w) = Ok (record { length = w.length; constructor = w.state.taken })
+stepped_as (Err x) = Err x

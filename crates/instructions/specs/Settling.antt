@@ -1,16 +1,13 @@
 -- The values of computed operands, by the scratch rows: what the code computes. Nothing reads a computed operand's own value, so that
 -- the values are put in row by row.
-use Rattle.std.specs.Prelude.{ℕ, zero, suc, ◌+◌, ◌-◌, ◌*◌, cond, List, [], ◌∷◌, ltb, eqb, ℤ, pos, nat_abs, get_or, set}
+use Rattle.std.specs.Prelude.{ℕ, zero, suc, ◌+◌, ◌-◌, ◌*◌, cond, List, [], ◌∷◌, ltb, eqb, ℤ, pos, nat_abs, get_or, set, Option, Some, None, Ok, Err}
 use Rattle.format.specs.Numbers.{operands_each}
 use Rattle.format.specs.Description.{Description, no_field}
-use Rattle.whole_numbers.specs.declared.Whole.{Whole}
-use Rattle.whole_numbers.specs.declared.Whole.TheVariants as whole
 use Rattle.decoding_spec.specs.Instruction.{Valued, valued, outside, where_inside, expression_value}
 use Rattle.decoding_spec.specs.declared.Refusal.TheVariants.{ValueOutside}
 use Rattle.walk_steps.specs.Scratch.{scratch_numbers}
 use Rattle.walking.specs.Walks.{Instruction, leaving, no_rows}
-use Rattle.walk_steps.specs.declared.Walked.{Walked}
-use Rattle.walk_steps.specs.declared.Walked.TheVariants.{Done, Refused}
+use Rattle.walk_steps.specs.Steps.{Walked}
 use Rattle.scratch_rows.specs.Places.{kind_at, number_at, start_at, last_at, size_at}
 
 -- the last row before r, and below k, whose part reaches past r: the constructor that r is an operand of
@@ -19,9 +16,9 @@ owner_below rows r zero = 0
 owner_below rows r (suc k) = cond (ltb r (k + size_at rows k)) k (owner_below rows r k)
 
 -- the rows with this value in row r
-abbrev pub with_value : List ℤ → ℕ → Whole → Valued (List ℤ)
-with_value rows r (whole.Value v) = valued (set rows (scratch_numbers * r + 3) v)
-with_value rows r whole.Outside = outside (start_at rows r)
+abbrev pub with_value : List ℤ → ℕ → Option ℤ → Valued (List ℤ)
+with_value rows r (Some v) = valued (set rows (scratch_numbers * r + 3) v)
+with_value rows r None = outside (start_at rows r)
 
 module _ (d : Description) where
   -- what the part at row r counts as
@@ -43,7 +40,7 @@ module _ (d : Description) where
 
   module _ (here after : ℕ) where
     -- the value of the computed operand at row r
-    unfoldable pub computed_at : List ℤ → ℕ → Whole
+    unfoldable pub computed_at : List ℤ → ℕ → Option ℤ
     computed_at rows r = expression_value d here after (counts_at rows (owner_below rows r r)) (number_at rows r)
 
     -- put in, if row r is one
@@ -58,9 +55,9 @@ module _ (d : Description) where
 -- the rows with their values; a value outside leaves none
 abbrev pub valued_as : Walked → Valued (List ℤ) → Instruction
 valued_as w (valued rows) = leaving w rows
-valued_as w (outside p) = leaving (Refused (ValueOutside p)) no_rows
+valued_as w (outside p) = leaving (Err (ValueOutside p)) no_rows
 
 -- what a walk at an address has answered and left, with its values
 abbrev pub settled_walk : Description → ℕ → Walked → List ℤ → Instruction
-settled_walk d here (Done st l) rows = valued_as (Done st l) (settled_from d here (here + l) rows 0 st.used)
-settled_walk d here (Refused x) rows = leaving (Refused x) rows
+settled_walk d here (Ok w) rows = valued_as (Ok w) (settled_from d here (here + w.length) rows 0 w.state.used)
+settled_walk d here (Err x) rows = leaving (Err x) rows

@@ -18,9 +18,11 @@ use Rattle.decoding_spec.specs.declared.Refusal.{Refusal}
 use Rattle.decoding_theorems.proofs.InBounds.{in_bounds}
 use Rattle.setting.specs.Fixed.{Fixed}
 use Rattle.setting.proofs.Laws.{obeyed-in, fixed-for, setting-for}
+use Rattle.setting.specs.declared.Prepared.{Prepared}
 use Rattle.walking.specs.Walks.{Instruction, instruction_as, told_length}
 use Rattle.instructions.specs.Instructions.{result_at}
-use Rattle.walk_steps.specs.declared.Walked.TheVariants as walked
+use Rattle.std.proofs.Common.{Err}
+use Rattle.walk_steps.specs.Steps.{arrived}
 use Rattle.instructions.proofs.InstructionRows.{was-refused, was-done}
 use Rattle.text.specs.Text.{text_of}
 use Rattle.text.specs.Places.{text_at, SoundRows}
@@ -33,28 +35,28 @@ use Rattle.listing_lines.specs.Put.{GapAt, PlaceOf, ShowsInstruction, Shows, Sho
 use Rattle.listing_lines.specs.declared.Shown.{Shown}
 
 -- the walk was told the length from there on: the description stays the same
-module _ (b a s : List ℕ) (at : ℕ) (f : Fixed b a) (a' : List ℕ) (told : a' ≡ told_length a s at) where
+module _ (b : List ℕ) (a : Prepared) (s : List ℕ) (at : ℕ) (f : Fixed b a) (a' : Prepared) (told : a' ≡ told_length a s at) where
   same-told : described b a' ≡ described b a
   same-told =
-      ap (λ (n : List ℕ). described b n) told ∙ ap (λ (g : Setting). g.description) (setting-for b a (length s - at) (omega (arith, f.long)))
+      ap (λ (n : Prepared). described b n) told ∙ ap (λ (g : Setting). g.description) (setting-for b a (length s - at))
 
   pub fixed_told : Fixed b a'
   fixed_told = rw told (fixed-for b a (length s - at) f)
 
-module _ (b a s : List ℕ) (c address at : ℕ) (gap : List ℕ) (place : GapAt b a s at gap) (a' : List ℕ) (told : a' ≡ told_length a s at) (i : Instruction)
+module _ (b : List ℕ) (a : Prepared) (s : List ℕ) (c address at : ℕ) (gap : List ℕ) (place : GapAt b a s at gap) (a' : Prepared) (told : a' ≡ told_length a s at) (i : Instruction)
     (is : i ≡ instruction_as (result_at b a s at c address)) where
   here : i ≡ instruction_as (instruction_of (described b a) c (address + at) (drop at s))
   unfolding result_at
   here = is
 
-  pub shows-refusal : (r : Refusal) → i.walked ≡ walked.Refused r → (old new : List ℕ) (shown : Shown) → Put (refused_text gap r) old new shown.size
+  pub shows-refusal : (r : Refusal) → i.walked ≡ Err r → (old new : List ℕ) (shown : Shown) → Put (refused_text gap r) old new shown.size
       → shown.next ≡ refused_next at (length gap) (length s) r → ShowsInstruction b a s c address at gap old shown new a'
   unfolding result_at
   shows-refusal r e old new shown p q =
       let z = was-refused (described b a) c (address + at) (drop at s) i here r e in
       record { text = rw z p; next = rw z q; told = told }
 
-  module _ (l : ℕ) (st : State) (e : i.walked ≡ walked.Done st l) where
+  module _ (l : ℕ) (st : State) (e : i.walked ≡ arrived st l) where
     pub rows-there : SoundRows (described b a') i.rows st.used × (0 < st.used)
     rows-there =
         let w = was-done (described b a) c (address + at) (drop at s) i here l st e in
@@ -83,7 +85,7 @@ module _ (b a s : List ℕ) (c address at : ℕ) (gap : List ℕ) (place : GapAt
         }
 
 -- a place of the code, with an alignment
-module _ (b a : List ℕ) (n : ℕ) (s : List ℕ) (c address at : ℕ) (place : PlaceOf b a n s at) where
+module _ (b : List ℕ) (a : Prepared) (n : ℕ) (s : List ℕ) (c address at : ℕ) (place : PlaceOf b a n s at) where
   -- the gap there, as the part of the code that it is
   module _ (end : ℕ) (ends : end ≡ at + gap_at address n s at) where
     pub end-inside : (at < end) × (end ≤ length s)
@@ -110,7 +112,7 @@ module _ (b a : List ℕ) (n : ℕ) (s : List ℕ) (c address at : ℕ) (place :
     pub gap-room : (out : List ℕ) → 52 ≤ length out → GapBytes (take (end - at) (drop at s)) out
     gap-room out h = record { some = gap-there.some; few = gap-there.few; room = h }
 
-    pub shows-there : (old new a' : List ℕ) (r : Shown) → is_multiple n (address + at) ≡ true
+    pub shows-there : (old new : List ℕ) (a' : Prepared) (r : Shown) → is_multiple n (address + at) ≡ true
         → ShowsInstruction b a s c address at (take (end - at) (drop at s)) old r new a' → Shows b a s c address n at old r new a'
     unfolding shown_at next_at told_at result_at
     shows-there old new a' r m h =
@@ -126,8 +128,8 @@ module _ (b a : List ℕ) (n : ℕ) (s : List ℕ) (c address at : ℕ) (place :
     unfolding shown_at next_at told_at
     shows-gap old new size m p = record { text = rw (m, ← gap_is) p; next = rw m ends; told = rw m }
 
-  -- afterwards the fixed numbers are those of the same description
-  module _ (a' : List ℕ) (told : a' ≡ told_at address n a s at) where
+  -- afterwards what is fixed is that of the same description
+  module _ (a' : Prepared) (told : a' ≡ told_at address n a s at) where
     pub same-description : described b a' ≡ described b a
     unfolding told_at
     same-description = go (is_multiple n (address + at)) told

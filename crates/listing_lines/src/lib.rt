@@ -13,9 +13,7 @@ ghost use Rattle.listing_lines.specs.Line.{refused_text, refused_next, line_at, 
 ghost use Rattle.listing_lines.specs.Put.{GapAt, PlaceOf, ShowsInstruction, Shows, ShowsText, told_at};
 
 use decoding_spec::Refusal;
-use setting::FIXED;
-use text::Line;
-use walk_steps::Walked;
+use setting::Prepared;
 
 // How many bytes are shown at a place, and the next place.
 #[derive(Clone, Copy)]
@@ -29,7 +27,7 @@ fn show_refusal(refusal: Refusal, gap: &[u8], at: usize, end: usize, out: &mut [
     requires { GapBytes gap.now out.old × (at + length gap.now ≤ end) }
     ensures { Put (refused_text gap.now refusal) out.old out.new result.size × (result.next ≡ refused_next at (length gap.now) end refusal) }
 {
-    if decoding_spec::is_short(refusal) {
+    if refusal.is_short() {
         return Shown {
             size: listing_parts::append(b".short", out, 0),
             next: end,
@@ -41,30 +39,23 @@ fn show_refusal(refusal: Refusal, gap: &[u8], at: usize, end: usize, out: &mut [
     }
 }
 
-// An instruction's text, or that it is too long for a line.
-fn show_text(
-    desc: &[u8],
-    fixed: &[usize; FIXED],
-    rows: &[i64],
-    used: usize,
-    out: &mut [u8],
-) -> usize
+// An instruction's text, or that it is too long for a line: there is room for the longest.
+fn show_text(desc: &[u8], fixed: &Prepared, rows: &[i64], used: usize, out: &mut [u8]) -> usize
     requires fixed { Fixed desc.now fixed.now × (length out.old ≡ longest_text) }
     requires sound_rows { SoundRows (described desc.now fixed.now) rows.now used × (0 < used) }
     ensures { ShowsText desc.now fixed.now rows.now out.old out.new result }
 {
     let line = text::print_text(desc, fixed, rows, used, out);
     match line {
-        Line::Written(count) => count,
-        Line::TextTooLong => listing_parts::append(b".long", out, 0),
-        Line::NoRoom => 0,
+        Ok(count) => count,
+        Err(_) => listing_parts::append(b".long", out, 0),
     }
 }
 
 // The instruction at a place; a gap there would have these bytes.
 fn show_instruction(
     desc: &[u8],
-    fixed: &mut [usize; FIXED],
+    fixed: &mut Prepared,
     context: u32,
     address: u32,
     code: &[u8],
@@ -78,17 +69,17 @@ fn show_instruction(
     let mut rows = [0i64; walk_steps::SCRATCH];
     let walked = instructions::decode_at(desc, fixed, context, address, code, at, &mut rows);
     match walked {
-        Walked::Refused(refusal) => show_refusal(refusal, gap, at, code.len(), out),
-        Walked::Done { state, length } => Shown {
-            size: show_text(desc, fixed, &rows, state.used, out),
-            next: at + length,
+        Ok(walk) => Shown {
+            size: show_text(desc, fixed, &rows, walk.state.used, out),
+            next: at + walk.length,
         },
+        Err(refusal) => show_refusal(refusal, gap, at, code.len(), out),
     }
 }
 
 fn show(
     desc: &[u8],
-    fixed: &mut [usize; FIXED],
+    fixed: &mut Prepared,
     context: u32,
     address: u32,
     alignment: usize,
@@ -114,7 +105,7 @@ fn show(
 // The line at a place of the code, whose byte 0 has this address, over the first bytes of a buffer.
 pub fn line_at(
     desc: &[u8],
-    fixed: &mut [usize; FIXED],
+    fixed: &mut Prepared,
     context: u32,
     address: u32,
     alignment: usize,

@@ -8,12 +8,11 @@ use borrow.Author.Tests.{le-leb, lt-ltb, le-ltb}
 use lib.Dec.{leb, ltb}
 use lib.ListN.{length, take, drop, length-append, length-drop}
 use lib.Seq.{take_at, drop-append-add, drop-drop, length-take-le}
+use Rattle.std.specs.Prelude.{Option, Some}
 use Rattle.printing.specs.Writing.{Puts, over}
 use Rattle.printing.specs.Numerals.{digits_up_to, digits_of}
-use Rattle.printing.specs.declared.Printed.{Printed}
-use Rattle.printing.specs.declared.Printed.TheVariants.{Wrote, Full}
 use Rattle.printing.proofs.Numerals.{up-to-length, digits-length, hex-digits}
-use Rattle.printing.proofs.Writing.{part-over, over-take, puts-wrote, puts-full}
+use Rattle.printing.proofs.Writing.{part-over, over-take}
 use Rattle.listing_parts.specs.Parts.{hex_digits, address_text}
 use Rattle.listing_parts.specs.Put.{Put, Appended}
 
@@ -28,7 +27,7 @@ over-over x y l a e =
     rw (front, long, tail)
 
 -- a writer that was lent the part behind a place, with room enough
-pub part-put : (at : ℕ) (w before mid part : List ℕ) (r : Printed) → at + length w ≤ length before
+pub part-put : (at : ℕ) (w before mid part : List ℕ) (r : Option ℕ) → at + length w ≤ length before
     → part ≡ take (length before - at) (drop at before) → Puts w part mid r
     → take at before ++ (mid ++ drop (length before - at) (drop at before)) ≡ over (take at before ++ w) before
 part-put at w before mid part r h e p =
@@ -81,15 +80,12 @@ unfolding over
 put-taken w before after n p = rw p.holds (take_at w (drop (length w) before) n (sym p.size))
 
 -- a number put behind a place, with room enough
-module _ (at base n : ℕ) (before mid part : List ℕ) (r : Printed) (h : at + 20 ≤ length before) (e : part ≡ take (length before - at) (drop at before))
+module _ (at base n : ℕ) (before mid part : List ℕ) (r : Option ℕ) (h : at + 20 ≤ length before) (e : part ≡ take (length before - at) (drop at before))
     (p : Puts (digits_of base n) part mid r) where
   pub number_put : take at before ++ (mid ++ drop (length before - at) (drop at before)) ≡ over (take at before ++ digits_of base n) before
   number_put = part-put at (digits_of base n) before mid part r (omega (arith, digits-length base n)) e p
 
-  pub number-count : (k : ℕ) → r ≡ Wrote k → k ≡ length (digits_of base n)
-  number-count k f = (puts-wrote p f).count
-
-  pub number_fits : r ≡ Full → ⊥
-  number_fits f =
+  pub number_is : r ≡ Some (length (digits_of base n))
+  number_is =
       let long : length part ≡ length before - at = rw e (length-take-le (length before - at) (drop at before) (omega (arith, length-drop at before))) in
-      omega (arith, (puts-full p f).0, digits-length base n)
+      p.answer ∙ rw (le-leb (length (digits_of base n)) (length part) (omega (arith, digits-length base n)))

@@ -1,20 +1,20 @@
 // The parts of a listing's line: the address, the bytes of a gap, the line of a bad description.
 #![tactic(auto)]
 
-ghost use Rattle.std.specs.Prelude.{[], ◌∷◌, ◌++◌, ◌⊎◌, ◌≡◌, ◌+◌, ◌*◌, ◌%◌, ◌≤◌, length};
+ghost use Rattle.std.specs.Prelude.{[], ◌∷◌, ◌++◌, ◌≡◌, ◌+◌, ◌*◌, ◌%◌, ◌≤◌, length};
 ghost use Rattle.format.specs.Numbers.{longest_text};
-ghost use Rattle.printing.specs.Numerals.{digit_of, digits_of};
+ghost use Rattle.printing.specs.Numerals.{base_number, digit_of, digits_of};
 ghost use Rattle.listing_parts.specs.Parts.{hex_digits, address_text, byte_word, byte_text, bytes_behind, gap_text, line_text, line_bytes, malformed_text, fault_line};
 ghost use Rattle.listing_parts.specs.Put.{Put, Appended, GapBytes};
 
 use acceptance::Rejection;
-use printing::Printed;
+use printing::Base;
 
 // The bytes of a line at most: the address, a colon, a blank, a text and the line's end.
 pub const LINE: usize = 16 + 2 + format::TEXT + 1;
 
 // The one line of a bad description, with zeros behind it, and its size.
-#[derive(Clone, Copy)]
+#[derive(Clone, Copy, PartialEq, Eq)]
 pub struct FaultLine {
     pub bytes: [u8; LINE],
     pub size: usize,
@@ -60,16 +60,13 @@ fn short_address(n: usize) -> [u8; 10]
     ]
 }
 
-// A number behind the bytes already written, in base 10 or 16.
-fn append_number(n: usize, base: u8, out: &mut [u8], at: usize) -> usize
-    requires { ((base ≡ 10) ⊎ (base ≡ 16)) × (at + 20 ≤ length out.old) }
-    ensures { Appended at (digits_of base n) out.old out.new result }
+// A number behind the bytes already written.
+fn append_number(n: usize, base: Base, out: &mut [u8], at: usize) -> usize
+    requires { at + 20 ≤ length out.old }
+    ensures { Appended at (digits_of (base_number base) n) out.old out.new result }
 {
     let put = printing::put_plain(n as u64, base, &mut out[at..]);
-    match put {
-        Printed::Wrote(count) => at + count,
-        Printed::Full => at,
-    }
+    at + put.unwrap()
 }
 
 // An address of eight digits, or as many as it needs, a colon and a blank.
@@ -81,7 +78,7 @@ fn put_address(here: usize, line: &mut [u8]) -> usize
         let head = short_address(here);
         return append(&head, line, 0);
     }
-    let end = append_number(here, 16, line, 0);
+    let end = append_number(here, Base::Hexadecimal, line, 0);
     append(b": ", line, end)
 }
 
@@ -128,11 +125,9 @@ fn append_bytes(bytes: &[u8], out: &mut [u8], at: usize) -> usize
     ensures { Appended at (bytes_behind bytes.now) out.old out.new result }
 {
     let mut end = at;
-    let mut i = 0;
-    while i < bytes.len() {
-        let text = next_byte(bytes[i]);
+    for byte in bytes {
+        let text = next_byte(*byte);
         end = append(&text, out, end);
-        i += 1;
     }
     end
 }
@@ -152,9 +147,9 @@ fn put_fault(first: usize, second: usize, line: &mut [u8]) -> usize
     ensures { Put (malformed_text first second) line.old line.new result }
 {
     let a = append(b"malformed ", line, 0);
-    let b = append_number(first, 10, line, a);
+    let b = append_number(first, Base::Decimal, line, a);
     let c = append(b" ", line, b);
-    let d = append_number(second, 10, line, c);
+    let d = append_number(second, Base::Decimal, line, c);
     append(b"\n", line, d)
 }
 
@@ -162,8 +157,8 @@ fn put_fault(first: usize, second: usize, line: &mut [u8]) -> usize
 pub fn fault_line(rejection: Rejection) -> FaultLine
     ensures { result ≡ fault_line rejection }
 {
-    let first = acceptance::first_value(rejection);
-    let second = acceptance::second_value(rejection);
+    let first = rejection.first_value();
+    let second = rejection.second_value();
     let mut bytes = [0u8; LINE];
     let size = put_fault(first, second, &mut bytes);
     FaultLine { bytes, size }

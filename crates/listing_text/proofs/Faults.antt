@@ -9,8 +9,7 @@ use lib.ListN.{length, take, length-take}
 use lib.Seq.{take_at}
 use Rattle.acceptance.specs.declared.Rejection.{Rejection}
 use Rattle.printing.specs.Writing.{Puts, over}
-use Rattle.printing.specs.declared.Printed.{Printed}
-use Rattle.printing.specs.declared.Printed.TheVariants.{Wrote, Full}
+use Rattle.std.proofs.Common.{Option, Some, None}
 use Rattle.printing.proofs.Writing.{puts-wrote, puts-full}
 use Rattle.listing_parts.specs.Parts.{fault_text, fault_line}
 use Rattle.listing_parts.specs.declared.FaultLine.{FaultLine}
@@ -35,11 +34,11 @@ module _ (x : Rejection) (old : List ℕ) (from : ℕ) where
     pub size_fits : line.size ≤ length line.bytes
     size_fits = omega (arith, prefix-long, length-take line.size line.bytes)
 
-    module _ (z : from ≡ 0) (new : List ℕ) (r : Printed) (puts : Puts (take line.size line.bytes) old new r) where
+    module _ (z : from ≡ 0) (new : List ℕ) (r : Option ℕ) (puts : Puts (take line.size line.bytes) old new r) where
       put-text : Puts (fault_text x) old new r
       put-text = rw text-there at puts
 
-      pub fault-full : r ≡ Full → Lists (fault_window x (length old) from) old (record { bytes = 0; lines = 0; next = 0; full = true }) new
+      pub fault-full : r ≡ None → Lists (fault_window x (length old) from) old (record { bytes = 0; lines = 0; next = 0; full = true }) new
       unfolding fault_window over
       fault-full e =
           let f = puts-full put-text e in
@@ -48,7 +47,7 @@ module _ (x : Rejection) (old : List ℕ) (from : ℕ) where
       same-part : (m n : ℕ) → m ≡ n → ◌≡◌ {A = Part} (record { bytes = m; lines = 1; next = 1; full = false }) (record { bytes = n; lines = 1 + 0; next = 1; full = false })
       same-part m n e = rw e
 
-      pub fault-written : (k : ℕ) → r ≡ Wrote k → Lists (fault_window x (length old) from) old (record { bytes = k; lines = 1; next = 1; full = false }) new
+      pub fault-written : (k : ℕ) → r ≡ Some k → Lists (fault_window x (length old) from) old (record { bytes = k; lines = 1; next = 1; full = false }) new
       unfolding fault_window
       fault-written k e =
           let w = puts-wrote put-text e in

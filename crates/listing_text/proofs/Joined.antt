@@ -7,13 +7,13 @@ use native.Mathlib.Omega.{arith}
 use borrow.Author.Tests.{leb-true, leb-false, eqb-true, eqb-false, ne_eqb}
 use lib.Dec.{leb, eqb}
 use lib.ListN.{length, length-append}
+use Rattle.std.proofs.Common.{Result, Ok, Err}
 use Rattle.alignment.specs.Alignment.{is_alignment}
 use Rattle.alignment.proofs.Laws.{alignment-some, alignment-few}
 use Rattle.printing.proofs.Numerals.{digits-length}
 use Rattle.format.specs.Description.{Description, description}
 use Rattle.acceptance.specs.Acceptance.{acceptance_of, accepting, first_value, second_value}
-use Rattle.acceptance.specs.declared.Acceptance.{Acceptance}
-use Rattle.acceptance.specs.declared.Acceptance.TheVariants.{Accepted, Rejected}
+use Rattle.format.specs.declared.Layout.{Layout}
 use Rattle.acceptance.specs.declared.Rejection.{Rejection}
 use Rattle.listing_parts.specs.Parts.{malformed_text, fault_text, line_bytes}
 use Rattle.listing_lines.specs.Line.{line_at, next_at}
@@ -124,11 +124,11 @@ input-window input room at = go (acceptance_of (description_part input))
     s : List ℕ
     s = code_part input
 
-    go : (a : Acceptance)
+    go : (a : Result Layout Rejection)
         → SplitsAt (λ at. accepting (λ x. fault_from x at) (λ d. lines_of d 0 0 1 s at) b a) (accepting (λ x. 1) (λ d. length s) b a) room at
         (accepting (λ x. fault_window x room at) (λ d. window_of d 0 0 1 s room at) b a)
-    go (Accepted l) = window-of (description b l) 0 0 1 refl s room at
-    go (Rejected x) = fault-window x room at
+    go (Ok l) = window-of (description b l) 0 0 1 refl s room at
+    go (Err x) = fault-window x room at
 
 -- parts joined are the whole, wherever they are cut
 pub parts-joined : (input : List ℕ) (rooms : List ℕ) (at : ℕ)

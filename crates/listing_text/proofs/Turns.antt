@@ -10,10 +10,10 @@ use Rattle.alignment.specs.Alignment.{is_alignment}
 use Rattle.alignment.proofs.Laws.{alignment-some, alignment-few}
 use Rattle.format.specs.Description.{Description}
 use Rattle.printing.specs.Writing.{Puts, over}
-use Rattle.printing.specs.declared.Printed.{Printed}
-use Rattle.printing.specs.declared.Printed.TheVariants.{Wrote, Full}
+use Rattle.std.proofs.Common.{Option, Some, None}
 use Rattle.printing.proofs.Writing.{puts-wrote, puts-full, part-over}
 use Rattle.setting.specs.Fixed.{Fixed}
+use Rattle.setting.specs.declared.Prepared.{Prepared}
 use Rattle.text.specs.Prints.{described}
 use Rattle.listing_parts.specs.Parts.{line_text, line_bytes}
 use Rattle.listing_lines.specs.Line.{line_at, next_at, line_shown}
@@ -33,11 +33,11 @@ over-length : (w l : List ℕ) → length w ≤ length l → length (over w l) �
 unfolding over
 over-length w l h = omega (arith, length-append w (drop (length w) l), length-drop (length w) l)
 
-module _ (b a₀ : List ℕ) (c address u : ℕ) (s old : List ℕ) (from : ℕ) where
+module _ (b : List ℕ) (a₀ : Prepared) (c address u : ℕ) (s old : List ℕ) (from : ℕ) where
   abbrev d₀ : Description
   d₀ = described b a₀
 
-  pub record LoopState (a out : List ℕ) (at bytes lines : ℕ) : Type 0 where
+  pub record LoopState (a : Prepared) (out : List ℕ) (at bytes lines : ℕ) : Type 0 where
     pub fixed : Fixed b a
     pub aligned : is_alignment u ≡ true
     pub same : described b a ≡ described b a₀
@@ -47,7 +47,7 @@ module _ (b a₀ : List ℕ) (c address u : ℕ) (s old : List ℕ) (from : ℕ)
   pub first-turn : Fixed b a₀ → is_alignment u ≡ true → LoopState a₀ old from 0 0
   first-turn f h = record { fixed = f; aligned = h; same = refl; going = going-first d₀ c address u s old from; kept = refl }
 
-  module _ (a out : List ℕ) (at bytes lines : ℕ) (t : LoopState a out at bytes lines) where
+  module _ (a : Prepared) (out : List ℕ) (at bytes lines : ℕ) (t : LoopState a out at bytes lines) where
     pub room-left : bytes ≤ length out
     room-left = omega (arith, bytes_fit d₀ c address u s old from out at bytes lines t.going, t.kept)
 
@@ -94,7 +94,7 @@ module _ (b a₀ : List ℕ) (c address u : ℕ) (s old : List ℕ) (from : ℕ)
             ∙ over-length (line_at d₀ c address u s at) buffer (omega (arith, line-length d₀ c address u s at (alignment-few u t.aligned)))
             ∙ wide
 
-        module _ (part mid : List ℕ) (r : Printed) (behind : part ≡ take (length out - bytes) (drop bytes out))
+        module _ (part mid : List ℕ) (r : Option ℕ) (behind : part ≡ take (length out - bytes) (drop bytes out))
             (puts : Puts (take shown.size line) part mid r) where
           put-line : Puts (line_at d₀ c address u s at) part mid r
           put-line = rw text-there at puts
@@ -102,7 +102,7 @@ module _ (b a₀ : List ℕ) (c address u : ℕ) (s old : List ℕ) (from : ℕ)
           part-long : length part ≡ length old - bytes
           part-long = rw behind (length-take-le (length out - bytes) (drop bytes out) (omega (arith, length-drop bytes out)) ∙ omega (arith, t.kept))
 
-          pub full-turn : r ≡ Full
+          pub full-turn : r ≡ None
               → Lists (window_of d₀ c address u s (length old) from) old (record { bytes = bytes; lines = lines; next = at; full = true })
               (take bytes out ++ (mid ++ drop (length out - bytes) (drop bytes out)))
           full-turn e =
@@ -113,14 +113,14 @@ module _ (b a₀ : List ℕ) (c address u : ℕ) (s old : List ℕ) (from : ℕ)
               subst (λ (o : List ℕ). Lists (window_of d₀ c address u s (length old) from) old (record { bytes = bytes; lines = lines; next = at; full = true }) o) (sym same)
               (going-full d₀ c address u s old from out at bytes lines t.going h (omega (arith, f.0, part-long)))
 
-          module _ (k : ℕ) (e : r ≡ Wrote k) where
+          module _ (k : ℕ) (e : r ≡ Some k) where
             count-there : k ≡ length (line_at d₀ c address u s at)
             count-there = (puts-wrote put-line e).count
 
             pub count_fits : bytes + k ≤ length old
             count_fits = omega (arith, (puts-wrote put-line e).fits, count-there, part-long, bytes_fit d₀ c address u s old from out at bytes lines t.going)
 
-            pub next-turn : (a' : List ℕ) → a' ≡ told_at address u a s at → (out' : List ℕ)
+            pub next-turn : (a' : Prepared) → a' ≡ told_at address u a s at → (out' : List ℕ)
                 → out' ≡ take bytes out ++ (mid ++ drop (length out - bytes) (drop bytes out))
                 → LoopState a' out' shown.next (bytes + k) (lines + 1)
             next-turn a' told out' q =

@@ -1,5 +1,5 @@
 -- The program's input and output, and windows of lines, as lists of bytes.
-use Rattle.std.specs.Prelude.{ℕ, zero, suc, ◌+◌, ◌-◌, min, Bool, true, false, cond, List, [], ◌∷◌, ◌++◌, leb, eqb, length, take, drop}
+use Rattle.std.specs.Prelude.{ℕ, zero, suc, ◌+◌, ◌-◌, min, Bool, true, false, cond, List, [], ◌∷◌, ◌++◌, leb, eqb, length, take, drop, Result, Ok, Err}
 use Rattle.alignment.specs.Alignment.{is_alignment}
 use Rattle.format.specs.Bytes.{u16_at}
 use Rattle.format.specs.Description.{Description}
@@ -10,8 +10,8 @@ use Rattle.listing_parts.specs.Parts.{fault_text}
 use Rattle.listing_lines.specs.Line.{line_at, next_at}
 use Rattle.listing_text.specs.declared.Part.{Part}
 use Rattle.listing_text.specs.declared.Split.{Split}
-use Rattle.listing_text.specs.declared.Listed.{Listed}
-use Rattle.listing_text.specs.declared.Listed.TheVariants.{Done, Rejected, NoAlignment}
+use Rattle.listing_text.specs.declared.ListError.{ListError}
+use Rattle.listing_text.specs.declared.ListError.TheVariants.{Rejected, NoAlignment}
 
 -- ---- the whole listing
 
@@ -57,9 +57,9 @@ part_of w = record { bytes = length w.text; lines = w.lines; next = w.next; full
 
 -- bytes b as the description, context c, the address of byte 0, alignment n, bytes s as the code, from a place on, room for so many
 -- bytes; an alignment is refused as a sweep refuses it
-unfoldable pub list_of : List ℕ → (c address n : ℕ) → List ℕ → (from room : ℕ) → Listed
+unfoldable pub list_of : List ℕ → (c address n : ℕ) → List ℕ → (from room : ℕ) → Result Part ListError
 list_of b c address n s from room =
-    accepting Rejected (λ d. cond (is_alignment n) (Done (part_of (window_of d c address n s room from))) (NoAlignment n)) b (acceptance_of b)
+    accepting (λ x. Err (Rejected x)) (λ d. cond (is_alignment n) (Ok (part_of (window_of d c address n s room from))) (Err (NoAlignment n))) b (acceptance_of b)
 
 -- the lent bytes afterwards
 unfoldable pub list_after : List ℕ → (c address n : ℕ) → List ℕ → ℕ → List ℕ → List ℕ
@@ -71,15 +71,15 @@ abbrev pub flag : Bool → ℕ
 flag true = 1
 flag false = 0
 
-abbrev pub number_of : Listed → ℕ
-number_of (Done p) = 0
-number_of (Rejected x) = rejection_number x
-number_of (NoAlignment n) = 12
+abbrev pub number_of : Result Part ListError → ℕ
+number_of (Ok p) = 0
+number_of (Err (Rejected x)) = rejection_number x
+number_of (Err (NoAlignment n)) = 12
 
-abbrev pub values_of : Listed → List ℕ
-values_of (Done p) = p.bytes ∷ p.lines ∷ p.next ∷ flag p.full ∷ []
-values_of (Rejected x) = rejection_values x
-values_of (NoAlignment n) = n ∷ 0 ∷ 0 ∷ 0 ∷ []
+abbrev pub values_of : Result Part ListError → List ℕ
+values_of (Ok p) = p.bytes ∷ p.lines ∷ p.next ∷ flag p.full ∷ []
+values_of (Err (Rejected x)) = rejection_values x
+values_of (Err (NoAlignment n)) = n ∷ 0 ∷ 0 ∷ 0 ∷ []
 
 -- ---- the program
 

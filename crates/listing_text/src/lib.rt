@@ -7,13 +7,13 @@ ghost use Rattle.format.specs.Check.{WellFormed};
 ghost use Rattle.listing_text.specs.Listing.{split_of, no_lines, fault_window, part_of, input_window, list_of, list_after};
 ghost use Rattle.printing.specs.Writing.{over};
 ghost use Rattle.listing_text.specs.Windows.{Lists, ListsIn};
+ghost use Rattle.listing_text.specs.declared.ListError.TheVariants.{Rejected};
 
-use acceptance::{Acceptance, Rejection};
+use acceptance::Rejection;
 use format::Layout;
-use printing::Printed;
 
 // How many bytes and lines were written, the next place, and whether the text is what ended them.
-#[derive(Clone, Copy)]
+#[derive(Clone, Copy, PartialEq, Eq)]
 pub struct Part {
     pub bytes: usize,
     pub lines: usize,
@@ -21,15 +21,23 @@ pub struct Part {
     pub full: bool,
 }
 
+// Why nothing is listed: the description is no such one, or there is no such alignment.
 #[derive(Clone, Copy)]
-pub enum Listed {
-    Done(Part),
+pub enum ListError {
     Rejected(Rejection),
     NoAlignment(u32),
 }
 
+impl From<Rejection> for ListError {
+    ghost from_gives = { λ x e. e ≡ Rejected x };
+
+    fn from(rejection: Rejection) -> ListError {
+        ListError::Rejected(rejection)
+    }
+}
+
 // The description is input[start..end], the code input[end..last].
-#[derive(Clone, Copy)]
+#[derive(Clone, Copy, PartialEq, Eq)]
 pub struct Split {
     pub start: usize,
     pub end: usize,
@@ -65,21 +73,17 @@ fn list_in(
         );
         let size = shown.size;
         let put = printing::put_bytes(&line[..size], &mut out[bytes..]);
-        match put {
-            Printed::Full => {
-                return Part {
-                    bytes,
-                    lines,
-                    next: at,
-                    full: true,
-                };
-            }
-            Printed::Wrote(count) => {
-                bytes += count;
-                lines += 1;
-                at = shown.next;
-            }
-        }
+        let Some(count) = put else {
+            return Part {
+                bytes,
+                lines,
+                next: at,
+                full: true,
+            };
+        };
+        bytes += count;
+        lines += 1;
+        at = shown.next;
     }
     Part {
         bytes,
@@ -98,31 +102,17 @@ pub fn list(
     code: &[u8],
     from: usize,
     out: &mut [u8],
-) -> Listed
+) -> Result<Part, ListError>
     ensures value { result ≡ list_of desc.now context address alignment code.now from (length out.old) }
     ensures out_after { out.new ≡ list_after desc.now context address alignment code.now from out.old }
 {
-    let acceptance = acceptance::accept(desc);
-    match acceptance {
-        Acceptance::Accepted(layout) => {
-            if alignment::is_alignment(alignment) {
-                let unit = alignment as usize;
-                let part = list_in(desc, layout, context, address, unit, code, from, out);
-                return Listed::Done(part);
-            }
-            Listed::NoAlignment(alignment)
-        }
-        Acceptance::Rejected(rejection) => Listed::Rejected(rejection),
+    let layout = acceptance::accept(desc)?;
+    if !alignment::is_alignment(alignment) {
+        return Err(ListError::NoAlignment(alignment));
     }
-}
-
-fn smaller(a: usize, b: usize) -> usize
-    ensures { result ≡ min a b }
-{
-    if a < b {
-        return a;
-    }
-    b
+    let unit = alignment as usize;
+    let part = list_in(desc, layout, context, address, unit, code, from, out);
+    Ok(part)
 }
 
 // The two parts of the program's input.
@@ -138,8 +128,8 @@ fn take_apart(input: &[u8]) -> Split
         };
     }
     let long = format::word(input, 0) as usize;
-    let end = smaller(2 + long, n);
-    let last = smaller(2 + long + CODE, n);
+    let end = (2 + long).min(n);
+    let last = (2 + long + CODE).min(n);
     Split {
         start: 2,
         end,
@@ -151,35 +141,30 @@ fn take_apart(input: &[u8]) -> Split
 fn list_fault(rejection: Rejection, from: usize, out: &mut [u8]) -> Part
     ensures { Lists (fault_window rejection (length out.old) from) out.old result out.new }
 {
-    if from == 0 {
-        let line = listing_parts::fault_line(rejection);
-        let text = line.bytes;
-        let size = line.size;
-        let put = printing::put_bytes(&text[..size], out);
-        match put {
-            Printed::Full => {
-                return Part {
-                    bytes: 0,
-                    lines: 0,
-                    next: 0,
-                    full: true,
-                };
-            }
-            Printed::Wrote(count) => {
-                return Part {
-                    bytes: count,
-                    lines: 1,
-                    next: 1,
-                    full: false,
-                };
-            }
-        }
+    if from != 0 {
+        return Part {
+            bytes: 0,
+            lines: 0,
+            next: from,
+            full: false,
+        };
     }
-    Part {
-        bytes: 0,
-        lines: 0,
-        next: from,
-        full: false,
+    let line = listing_parts::fault_line(rejection);
+    let text = line.bytes;
+    let size = line.size;
+    match printing::put_bytes(&text[..size], out) {
+        Some(count) => Part {
+            bytes: count,
+            lines: 1,
+            next: 1,
+            full: false,
+        },
+        None => Part {
+            bytes: 0,
+            lines: 0,
+            next: 0,
+            full: true,
+        },
     }
 }
 
@@ -206,9 +191,8 @@ pub fn list_input(input: &[u8], from: usize, out: &mut [u8]) -> Part
     let last = split.last;
     let desc = &input[start..end];
     let code = &input[end..last];
-    let acceptance = acceptance::accept(desc);
-    match acceptance {
-        Acceptance::Accepted(layout) => list_in(desc, layout, 0, 0, 1, code, from, out),
-        Acceptance::Rejected(rejection) => list_fault(rejection, from, out),
+    match acceptance::accept(desc) {
+        Ok(layout) => list_in(desc, layout, 0, 0, 1, code, from, out),
+        Err(rejection) => list_fault(rejection, from, out),
     }
 }

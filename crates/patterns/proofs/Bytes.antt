@@ -20,20 +20,6 @@ use Rattle.patterns.specs.Matching.{byte_bit, present}
 use Rattle.patterns.specs.Words.{input_of}
 use Rattle.patterns.specs.declared.Input.{Input}
 
--- bytes that are the same give the same number
-pub quad-same : (a b : List ℕ) → ((k : ℕ) → k < 8 → get_or a k 0 ≡ get_or b k 0) → u64_at a 0 ≡ u64_at b 0
-quad-same a b e =
-    rw (
-      e 0 (lit< tt),
-      e 1 (lit< tt),
-      e 2 (lit< tt),
-      e 3 (lit< tt),
-      e 4 (lit< tt),
-      e 5 (lit< tt),
-      e 6 (lit< tt),
-      e 7 (lit< tt),
-    )
-
 module _ (s : List ℕ) (bytes : (i : ℕ) → get_or s i 0 < 256) where
   word-bit : (at k : ℕ) → k < 16 → bit (u16_at s at) k ≡ bit (byte_at s (at + k / 8)) (k % 8)
   word-bit at k h = go (dec_lt k 8)

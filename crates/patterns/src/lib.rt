@@ -9,7 +9,7 @@ ghost use Rattle.patterns.specs.Words.{input_of, words_agree, words_whole};
 use format::Pattern;
 
 // A word with every bit set.
-pub const ALL: u64 = 18446744073709551615;
+pub const ALL: u64 = u64::MAX;
 
 // The first eight bytes of the code as a number, missing ones 0, the bits that are here and those that are missing, and the
 // context. Made once for a choice.
@@ -27,11 +27,7 @@ fn padded(code: &[u8]) -> u64
     ensures { result ≡ u64_at code.now 0 }
 {
     let mut eight = [0u8; 8];
-    let mut i = 0;
-    while i < code.len() {
-        eight[i] = code[i];
-        i += 1;
-    }
+    eight[..code.len()].copy_from_slice(code);
     format::quad(&eight, 0)
 }
 
@@ -61,7 +57,7 @@ pub fn agrees(p: Pattern, i: Input) -> bool
     ensures { result ≡ words_agree p i }
 {
     ((i.word ^ p.value) & (p.mask & i.here) == 0)
-        & ((i.context ^ (p.contextvalue as u64)) & (p.contextmask as u64) == 0)
+        & ((i.context ^ u64::from(p.contextvalue)) & u64::from(p.contextmask) == 0)
 }
 
 // Whether all bytes are here in which a pattern masks a bit.
@@ -100,14 +96,11 @@ pub fn joined(a: Pattern, b: Pattern) -> Pattern
 pub fn same(a: Pattern, b: Pattern) -> bool
     ensures { result ≡ equal a b }
 {
-    (a.mask == b.mask)
-        & (a.value == b.value)
-        & (a.contextmask == b.contextmask)
-        & (a.contextvalue == b.contextvalue)
+    a == b
 }
 
 pub fn weight_of(p: Pattern) -> u32
     ensures { result ≡ weight p }
 {
-    u64::count_ones(p.mask) + u32::count_ones(p.contextmask)
+    p.mask.count_ones() + p.contextmask.count_ones()
 }

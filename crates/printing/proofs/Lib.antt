@@ -1,5 +1,4 @@
 -- Laws of writers and of numerals.
 pub mod Writing
 pub mod Numerals
-pub mod Ending
 pub mod Signs

@@ -1,16 +1,18 @@
 -- The digits of a number, and how long a numeral is.
-use Prim.Native.Nat.{ℕ, zero, suc, ◌/◌, ◌%◌, ◌^◌, ◌≤◌, ◌<◌}
+use Prim.Native.Nat.{ℕ, zero, suc, ◌+◌, ◌/◌, ◌%◌, ◌^◌, ◌≤◌, ◌<◌}
 use mathlib.Core.Bool.{Bool, true, false, cond}
-use mathlib.Core.List.{List, [], ◌∷◌, ◌++◌}
-use mathlib.Core.Logic.{◌⊎◌, ⊎_elim}
+use mathlib.Core.List.{List, [], ◌∷◌, ◌++◌, append_assoc}
 use mathlib.Core.Path.{◌≡◌, sym, ◌∙◌, ap}
-use native.Mathlib.Nat.{div-lt_iff_lt-mul, pow-zero, pow-suc}
+use native.Mathlib.Decide.{dec_lt}
+use native.Mathlib.Nat.{mod-eq_of_lt, div-eq_of_lt, div-lt_iff_lt-mul, pow-zero, pow-suc}
 use native.Mathlib.Omega.{arith}
-use borrow.Author.Tests.{lt-ltb, le-ltb, eq-eqb, ne_eqb}
+use borrow.Author.Tests.{lt-ltb, le-ltb}
 use lib.Dec.{eqb, ltb}
 use lib.IntN.{ℤ, pos, negsuc, nat_abs}
 use lib.ListN.{length, length-append}
-use Rattle.printing.specs.Numerals.{digit_of, digits_up_to, digits_of, sign_text, prefix_text, number_text}
+use Rattle.printing.specs.declared.Base.{Base}
+use Rattle.printing.specs.declared.Base.TheVariants.{Decimal, Hexadecimal}
+use Rattle.printing.specs.Numerals.{base_number, digit_of, digits_up_to, digits_of, sign_text, prefix_text, number_text}
 
 pub up-to-length : (most base n : ℕ) → length (digits_up_to most base n) ≤ most
 unfolding digits_up_to
@@ -66,35 +68,48 @@ hex-digits n h =
     let some : 0 < 16 = omega arith in
     sym (more 15 16 n some h ∙ more 16 16 n some (omega arith) ∙ more 17 16 n some (omega arith) ∙ more 18 16 n some (omega arith))
 
-abbrev pub Base : ℕ → Type 0
-Base base = (base ≡ 10) ⊎ (base ≡ 16)
-
 -- a number of 64 bits, less its last digit, has at most 19
-quotient-small : (base n : ℕ) → Base base → n < 2 ^ 64 → n / base < base ^ 19
-quotient-small base n b h = ⊎_elim (λ e. rw e (omega arith)) (λ e. rw e (omega arith)) b
+quotient-small : (base : Base) (n : ℕ) → n < 2 ^ 64 → n / base_number base < base_number base ^ 19
+quotient-small Decimal n h = omega arith
+quotient-small Hexadecimal n h = omega arith
+
+pub base-some : (base : Base) → 0 < base_number base
+base-some Decimal = omega arith
+base-some Hexadecimal = omega arith
 
 pub digits-one : (base n : ℕ) → n < base → digits_of base n ≡ digit_of n ∷ []
 unfolding digits_of digits_up_to
 digits-one base n h = rw (lt-ltb n base h)
 
-pub digits_step : (base n : ℕ) → Base base → n < 2 ^ 64 → base ≤ n
-    → digits_of base n ≡ digits_of base (n / base) ++ (digit_of (n % base) ∷ [])
+pub digits_step : (base : Base) (n : ℕ) → n < 2 ^ 64 → base_number base ≤ n
+    → digits_of (base_number base) n ≡ digits_of (base_number base) (n / base_number base) ++ (digit_of (n % base_number base) ∷ [])
 unfolding digits_of digits_up_to
-digits_step base n b h l =
+digits_step b n h l =
+    let base = base_number b in
     ap (λ (t : Bool). cond t (digit_of n ∷ []) (digits_up_to 19 base (n / base) ++ (digit_of (n % base) ∷ []))) (le-ltb n base l)
     ∙ ap (λ (d : List ℕ). d ++ (digit_of (n % base) ∷ []))
-    (more 18 base (n / base) (⊎_elim (λ e. omega arith) (λ e. omega arith) b) (quotient-small base n b h))
+    (more 18 base (n / base) (base-some b) (quotient-small b n h))
 
-pub prefix-none : (base : ℕ) → (base ≡ 16 → ⊥) → prefix_text base ≡ []
-unfolding prefix_text
-prefix-none base h = rw (ne_eqb base 16 h)
+-- the digits still to come, before those that stand there, leave room for the longest
+pub room : (base rest n : ℕ) (l : List ℕ) → digits_of base rest ++ l ≡ digits_of base n → length l ≤ 19
+room base rest n l e =
+    let d : length (digits_of base rest) + length l ≤ 20 = rw (← length-append (digits_of base rest) l, e) (digits-length base n) in
+    omega (arith, digits-some base rest)
 
-pub prefix-hex : (base : ℕ) → base ≡ 16 → prefix_text base ≡ 48 ∷ 120 ∷ []
-unfolding prefix_text
-prefix-hex base h = rw (eq-eqb base 16 h)
+-- the last digit is written; others come before it
+pub digit-more : (base : Base) (rest : ℕ) (l : List ℕ) → rest < 2 ^ 64 → (rest / base_number base ≡ 0 → ⊥)
+    → digits_of (base_number base) (rest / base_number base) ++ (digit_of (rest % base_number base) ∷ l) ≡ digits_of (base_number base) rest ++ l
+digit-more base rest l h q =
+    rw (digits_step base rest h (go (dec_lt rest (base_number base))), append_assoc)
+  where
+    go : Dec (rest < base_number base) → base_number base ≤ rest
+    go (yes p) = absurd (q (div-eq_of_lt p))
+    go (no p) = omega arith
 
-pub remainder-small : (base n : ℕ) → Base base → n % base < 16
-remainder-small base n b = ⊎_elim (λ e. rw e (omega arith)) (λ e. rw e (omega arith)) b
-
-pub quotient-less : (base n : ℕ) → Base base → (n / base ≡ 0 → ⊥) → n / base < n
-quotient-less base n b q = ⊎_elim (λ e. let p = rw e at q in rw e (omega arith)) (λ e. let p = rw e at q in rw e (omega arith)) b
+-- the first digit is written
+pub digit-first : (base : Base) (rest : ℕ) (l : List ℕ) → rest / base_number base ≡ 0
+    → digit_of (rest % base_number base) ∷ l ≡ digits_of (base_number base) rest ++ l
+digit-first base rest l q =
+    let less : rest < base_number base =
+    omega (arith, (div-lt_iff_lt-mul {k = base_number base} {x = rest} {y = 1} (base-some base)).0 (omega arith)) in
+    rw (mod-eq_of_lt less, digits-one (base_number base) rest less)

@@ -1,5 +1,11 @@
 -- Numbers as text, as lists of character codes.
 use Rattle.std.specs.Prelude.{ℕ, zero, suc, ◌+◌, ◌/◌, ◌%◌, cond, List, [], ◌∷◌, ◌++◌, eqb, ltb, ℤ, pos, negsuc, nat_abs}
+use Rattle.printing.specs.declared.Base.{Base}
+use Rattle.printing.specs.declared.Base.TheVariants.{Decimal, Hexadecimal}
+
+abbrev pub base_number : Base → ℕ
+base_number Decimal = 10
+base_number Hexadecimal = 16
 
 -- '0' to '9', then "lower-case digits" 'a' to 'f'
 unfoldable pub digit_of : ℕ → ℕ

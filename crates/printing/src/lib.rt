@@ -1,33 +1,32 @@
 // Bytes and numbers, written into a lent part of a text.
 #![tactic(auto)]
 
-ghost use Rattle.std.specs.Prelude.{◌⊎◌, ◌≡◌, ◌∷◌, ◌++◌, ◌≤◌, ◌<◌, ◌/◌, ◌%◌, nat_abs, length, drop};
-ghost use Rattle.printing.specs.Ending.{Ends};
-ghost use Rattle.printing.specs.Numerals.{digit_of, digits_of, prefix_text, number_text};
+ghost use Rattle.std.specs.Prelude.{◌≡◌, ℕ, List, [], ◌∷◌, ◌++◌, ◌≤◌, ◌<◌, ◌/◌, ◌%◌, nat_abs, length, drop};
+ghost use Rattle.printing.specs.Numerals.{base_number, digit_of, digits_of, prefix_text, number_text};
 ghost use Rattle.printing.specs.Writing.{Puts};
 
-// How many bytes were written; or that they had no room, and none was.
-#[derive(Clone, Copy)]
-pub enum Printed {
-    Wrote(usize),
-    Full,
+use std::marker::Model;
+
+// The base of a numeral.
+#[derive(Clone, Copy, PartialEq, Eq)]
+pub enum Base {
+    Decimal,
+    Hexadecimal,
 }
 
-pub fn put_bytes(src: &[u8], out: &mut [u8]) -> Printed
+// How many bytes were written; `None` where they had no room, and then none was.
+pub fn put_bytes(src: &[u8], out: &mut [u8]) -> Option<usize>
     ensures { Puts src.now out.old out.new result }
 {
     let size = src.len();
     if out.len() < size {
-        return Printed::Full;
+        return None;
     }
-    let mut i = 0;
-    while i < size {
-        out[i] = src[i];
-        i += 1;
-    }
-    Printed::Wrote(size)
+    out[..size].copy_from_slice(src);
+    Some(size)
 }
 
+#[tactic(auto, unfolding(crate::specs::Numerals::digit_of))]
 pub fn digit(d: u8) -> u8
     requires { d < 16 }
     ensures { result ≡ digit_of d }
@@ -35,60 +34,89 @@ pub fn digit(d: u8) -> u8
     if d < 10 { b'0' + d } else { b'a' - 10 + d }
 }
 
-// Divisions by a constant are fast, by a variable slow: hence the branch.
-fn quotient(n: u64, base: u8) -> u64
-    requires { (base ≡ 10) ⊎ (base ≡ 16) }
-    ensures { result ≡ n / base }
+// Divisions by a constant are fast, by a variable slow: hence the two arms.
+fn quotient(n: u64, base: Base) -> u64
+    ensures { result ≡ n / base_number base }
 {
-    if base == 16 { n / 16 } else { n / 10 }
-}
-
-fn remainder(n: u64, base: u8) -> u8
-    requires { (base ≡ 10) ⊎ (base ≡ 16) }
-    ensures { result ≡ n % base }
-{
-    if base == 16 {
-        (n % 16) as u8
-    } else {
-        (n % 10) as u8
+    match base {
+        Base::Decimal => n / 10,
+        Base::Hexadecimal => n / 16,
     }
 }
 
-// A byte directly before those from `at` on; where they then start.
-fn put_before(byte: u8, at: usize, text: &mut [u8; 23]) -> usize
-    requires { (length text.old ≡ 23) × (1 ≤ at) × (at ≤ 23) }
-    ensures { Ends text.new result (byte ∷ drop at text.old) }
+fn remainder(n: u64, base: Base) -> u8
+    ensures { result ≡ n % base_number base }
 {
-    let k = at - 1;
-    text[k] = byte;
-    k
+    match base {
+        Base::Decimal => (n % 10) as u8,
+        Base::Hexadecimal => (n % 16) as u8,
+    }
 }
 
-// The digits of a number, as the last bytes, from the last digit on; where they start.
-fn put_digits(n: u64, base: u8, text: &mut [u8; 23]) -> usize
-    requires { (length text.old ≡ 23) × ((base ≡ 10) ⊎ (base ≡ 16)) }
-    ensures { Ends text.new result (digits_of base n) }
-{
-    let mut rest = n;
-    let mut at = 23;
-    loop {
-        at = put_before(digit(remainder(rest, base)), at, text);
-        rest = quotient(rest, base);
-        if rest == 0 {
-            return at;
+// A numeral, made from its end: its bytes are those from `start` on. The longest has 23.
+#[derive(Drop)]
+struct Numeral {
+    text: [u8; 23],
+    start: usize,
+}
+
+impl Model for Numeral {
+    ghost Value = { List ℕ };
+
+    ghost view = { λ m. drop m.start m.text };
+
+    ghost invariant = { λ m. (length m.text ≡ 23) × (m.start ≤ 23) };
+}
+
+impl Numeral {
+    fn new() -> Numeral
+        ensures { result ≡ [] }
+    {
+        Numeral {
+            text: [0; 23],
+            start: 23,
         }
     }
-}
 
-fn put_prefix(base: u8, at: usize, text: &mut [u8; 23]) -> usize
-    requires { (length text.old ≡ 23) × (2 ≤ at) × (at ≤ 23) }
-    ensures { Ends text.new result (prefix_text base ++ drop at text.old) }
-{
-    if base != 16 {
-        return at;
+    // The digits of a number, put there from the last one on.
+    fn of(n: u64, base: Base) -> Numeral
+        ensures { result ≡ digits_of (base_number base) n }
+    {
+        let mut numeral = Numeral::new();
+        let mut rest = n;
+        loop {
+            numeral.put_before(digit(remainder(rest, base)));
+            rest = quotient(rest, base);
+            if rest == 0 {
+                return numeral;
+            }
+        }
     }
-    let x = put_before(b'x', at, text);
-    put_before(b'0', x, text)
+
+    fn put_before(&mut self, byte: u8)
+        requires { length self.old < 23 }
+        ensures { self.new ≡ byte ∷ self.old }
+    {
+        self.start -= 1;
+        self.text[self.start] = byte;
+    }
+
+    #[tactic(auto, unfolding(crate::specs::Numerals::prefix_text))]
+    fn put_prefix(&mut self, base: Base)
+        requires { length self.old ≤ 21 }
+        ensures { self.new ≡ prefix_text (base_number base) ++ self.old }
+    {
+        if base == Base::Hexadecimal {
+            self.put_before(b'x');
+            self.put_before(b'0');
+        }
+    }
+
+    fn bytes(&self) -> &[u8]
+        ensures { result.now ≡ self.now }
+    {
+        &self.text[self.start..]
+    }
 }
 
 // A value below zero is negated; the lowest has no negation in an i64, so one is added first, and again behind the cast.
@@ -102,26 +130,22 @@ pub fn magnitude(value: i64) -> u64
     }
 }
 
-// A number in base 10 or 16: made from its end in a text of its own, whose part is then copied.
-pub fn put_number(value: i64, base: u8, out: &mut [u8]) -> Printed
-    requires { (base ≡ 10) ⊎ (base ≡ 16) }
-    ensures { Puts (number_text base value) out.old out.new result }
+// A number in a base: its sign, its prefix and its digits.
+pub fn put_number(value: i64, base: Base, out: &mut [u8]) -> Option<usize>
+    ensures { Puts (number_text (base_number base) value) out.old out.new result }
 {
-    let mut text = [0u8; 23];
-    let mut at = put_digits(magnitude(value), base, &mut text);
-    at = put_prefix(base, at, &mut text);
+    let mut numeral = Numeral::of(magnitude(value), base);
+    numeral.put_prefix(base);
     if value < 0 {
-        at = put_before(b'-', at, &mut text);
+        numeral.put_before(b'-');
     }
-    put_bytes(&text[at..], out)
+    put_bytes(numeral.bytes(), out)
 }
 
-// A number without sign and prefix, in base 10 or 16.
-pub fn put_plain(n: u64, base: u8, out: &mut [u8]) -> Printed
-    requires { (base ≡ 10) ⊎ (base ≡ 16) }
-    ensures { Puts (digits_of base n) out.old out.new result }
+// A number without sign and prefix.
+pub fn put_plain(n: u64, base: Base, out: &mut [u8]) -> Option<usize>
+    ensures { Puts (digits_of (base_number base) n) out.old out.new result }
 {
-    let mut text = [0u8; 23];
-    let at = put_digits(n, base, &mut text);
-    put_bytes(&text[at..], out)
+    let numeral = Numeral::of(n, base);
+    put_bytes(numeral.bytes(), out)
 }

@@ -4,3 +4,4 @@ pub mod Gathered
 pub mod Shape
 pub mod Pieces
 pub mod FieldOperands
+pub mod Ranges

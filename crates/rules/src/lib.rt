@@ -54,14 +54,11 @@ fn look_ok(f: Field, names: usize) -> bool
     (f.first as usize) + names_of(bits) <= names
 }
 
+#[tactic(auto, unfolding(format::specs::Rules::field_ok))]
 pub fn field_ok(f: Field, names: usize) -> bool
     ensures { result ≡ field_ok names f }
 {
-    if source_ok(f) & bits_ok(f) {
-        look_ok(f, names)
-    } else {
-        false
-    }
+    source_ok(f) & bits_ok(f) && look_ok(f, names)
 }
 
 pub fn name_ok(n: Name, letters: usize) -> bool
@@ -136,12 +133,9 @@ pub fn mark_tables(desc: &[u8], layout: Layout, marks: &mut [bool; format::BYTE_
     requires { SectionsInBounds desc.now layout × (marks.old ≡ no_marks) }
     ensures { marks.new ≡ table_marks (description desc.now layout) }
 {
-    let n = layout.constructors.count;
-    let mut i = 0;
-    while i < n {
+    for i in 0..layout.constructors.count {
         let table = sections::table_at(desc, layout, i) as usize;
         marks[table] = true;
-        i += 1;
     }
 }
 
@@ -156,14 +150,23 @@ fn with_bit(word: u16, bit: u16, set: bool) -> u16
     word
 }
 
-// Operand o, from 0, of a constructor of this table: its anchor and its table.
-fn operand_fits(x: Operand, tables: &[bool; format::BYTE_VALUES], table: u8, o: usize) -> bool
-    requires { o < byte_values }
-    ensures { result ≡ anchor_fits o x && (not (eqb x.kind 1) || (ltb x.index table && get_or tables.now x.index false)) }
+// The anchor and the table of the constructor's operand o, from 0, fit it.
+fn place_fits(
+    desc: &[u8],
+    layout: Layout,
+    tables: &[bool; format::BYTE_VALUES],
+    c: Constructor,
+    o: usize,
+) -> bool
+    requires marked { Marked desc.now layout tables.now }
+    requires shaped { Shaped layout.operands.count layout.pieces.count c }
+    requires o_lt_count { o < c.operands.count }
+    ensures { result ≡ place_fits (description desc.now layout) c o }
 {
+    let x = sections::operand_at(desc, layout, c.operands.first as usize + o);
     let anchor = x.anchor as usize;
     let index = x.index as usize;
-    (anchor < o + 1) & ((x.kind != 1) | ((x.index < table) & tables[index]))
+    (anchor < o + 1) & ((x.kind != 1) | ((x.index < c.table) & tables[index]))
 }
 
 // The constructor's field operands, as the bits of a word: bit n for operand n, the first is 1.
@@ -172,16 +175,13 @@ fn field_operands(desc: &[u8], layout: Layout, c: Constructor) -> u16
     requires shaped { Shaped layout.operands.count layout.pieces.count c }
     ensures { FieldBits (description desc.now layout) c result }
 {
-    let n = c.operands.count as usize;
+    let first = c.operands.first as usize;
     let mut word: u16 = 0;
     let mut bit: u16 = 2;
-    let mut o = 0;
-    while o < n {
-        let first = c.operands.first as usize;
+    for o in 0..c.operands.count as usize {
         let x = sections::operand_at(desc, layout, first + o);
         word = with_bit(word, bit, x.kind == 0);
         bit = 2 * bit;
-        o += 1;
     }
     word
 }
@@ -217,19 +217,7 @@ fn places_fit(
     requires shaped { Shaped layout.operands.count layout.pieces.count c }
     ensures { result ≡ all_below c.operands.count (place_fits (description desc.now layout) c) }
 {
-    let first = c.operands.first as usize;
-    let n = c.operands.count as usize;
-    let mut o = 0;
-    while o < n {
-        let x = sections::operand_at(desc, layout, first + o);
-        let fits = operand_fits(x, tables, c.table, o);
-        if fits {
-            o += 1;
-        } else {
-            return false;
-        }
-    }
-    true
+    (0..c.operands.count as usize).all(|o| place_fits(desc, layout, tables, c, o))
 }
 
 // The expressions that its operands name fit it. Most descriptions have none.
@@ -242,17 +230,14 @@ fn expressions_fit(desc: &[u8], layout: Layout, c: Constructor) -> bool
         return true;
     }
     let first = c.operands.first as usize;
-    let n = c.operands.count as usize;
-    let mut o = 0;
-    while o < n {
-        let x = sections::operand_at(desc, layout, first + o);
-        if expression_fits(desc, layout, c, x) {
-            o += 1;
-        } else {
-            return false;
-        }
-    }
-    true
+    (0..c.operands.count as usize).all(|o| {
+        expression_fits(
+            desc,
+            layout,
+            c,
+            sections::operand_at(desc, layout, first + o),
+        )
+    })
 }
 
 fn operands_ok(
@@ -265,11 +250,7 @@ fn operands_ok(
     requires shaped { Shaped layout.operands.count layout.pieces.count c }
     ensures { result ≡ all_below c.operands.count (operand_fits (description desc.now layout) c) }
 {
-    if places_fit(desc, layout, tables, c) {
-        expressions_fit(desc, layout, c)
-    } else {
-        false
-    }
+    places_fit(desc, layout, tables, c) && expressions_fit(desc, layout, c)
 }
 
 // A piece of a constructor with so many operands, where `shown` marks those that an earlier piece shows.
@@ -287,16 +268,13 @@ fn pieces_ok(desc: &[u8], layout: Layout, c: Constructor) -> bool
     ensures { result ≡ all_below c.pieces.count (piece_fits (description desc.now layout) c) }
 {
     let first = c.pieces.first as usize;
-    let n = c.pieces.count as usize;
     let mut shown = [false; SHOWN as usize];
     let mut good = true;
-    let mut q = 0;
-    while q < n {
+    for q in 0..c.pieces.count as usize {
         let p = sections::piece_at(desc, layout, first + q);
         good = good & piece_fits(p, c.operands.count, &shown);
         let at = (p.n % SHOWN) as usize;
         shown[at] = shown[at] | (p.kind == 1);
-        q += 1;
     }
     good
 }
@@ -311,15 +289,9 @@ pub fn constructor_ok(
     requires { Judging desc.now layout tables.now i c }
     ensures { result ≡ constructor_ok (description desc.now layout) i }
 {
-    if shape_ok(desc, layout, i, c) {
-        if operands_ok(desc, layout, tables, c) {
-            pieces_ok(desc, layout, c)
-        } else {
-            false
-        }
-    } else {
-        false
-    }
+    shape_ok(desc, layout, i, c)
+        && operands_ok(desc, layout, tables, c)
+        && pieces_ok(desc, layout, c)
 }
 
 fn field_fits(desc: &[u8], layout: Layout, x: Operand) -> bool
@@ -335,6 +307,7 @@ fn field_fits(desc: &[u8], layout: Layout, x: Operand) -> bool
     }
 }
 
+#[tactic(auto, unfolding(format::specs::Rules::operand_ok))]
 pub fn operand_ok(desc: &[u8], layout: Layout, x: Operand) -> bool
     requires { SectionsInBounds desc.now layout }
     ensures { result ≡ operand_ok (fields_of desc.now layout) layout.expressions.count x }

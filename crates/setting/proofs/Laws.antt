@@ -1,11 +1,10 @@
--- The numbers of a description, read back; a table's range by them, and the choice in it.
+-- What is fixed, of its description; a table's range by it, and the choice in it.
 use Prim.Native.Nat.{ℕ, ◌+◌, ◌-◌, ◌≤◌, ◌<◌}
 use mathlib.Core.Bool.{Bool, true, false}
 use mathlib.Core.List.{List}
 use mathlib.Core.Path.{◌≡◌, refl, sym, ap, ◌∙◌}
 use native.Mathlib.Omega.{arith}
-use lib.ListN.{length, get_or, drop, set, length-set}
-use lib.Seq.{get_or-drop, drop-set-lt, get_or-set_same, get_or-set_other}
+use lib.ListN.{length, get_or}
 use Rattle.format.specs.Numbers.{tables, most_constructors, expression_bytes}
 use Rattle.format.specs.Expression.{expression_at, no_expression}
 use Rattle.format.specs.Check.{WellFormed}
@@ -16,78 +15,66 @@ use Rattle.format.proofs.Formation.{RulesHold, obeyed}
 use Rattle.format.proofs.Lists.{constructors-length, expressions-length, expression-here}
 use Rattle.format.proofs.Tables.{end_is, first-within, end-within}
 use Rattle.tables.specs.Starts.{table_starts}
-use Rattle.tables.proofs.FirstConstructors.{starts-length, start-at}
+use Rattle.tables.proofs.FirstConstructors.{start-at}
 use Rattle.tables.specs.declared.Table.{Table}
 use Rattle.tables.proofs.Range.{in-section, root-end}
 use Rattle.choosing_spec.specs.Choosing.{choose}
-use Rattle.choosing_spec.specs.declared.Choice.{Choice}
-use Rattle.choosing_spec.specs.declared.Choice.TheVariants as choice
+use Rattle.std.specs.Prelude.{Result, Ok}
+use Rattle.choosing_spec.specs.declared.NotChosen.{NotChosen}
 use Rattle.choosing_spec.specs.Table.{pattern_from}
 use Rattle.choosing_theorems.proofs.Taken.{taken-facts}
 use Rattle.decoding_spec.specs.State.{with_total}
 use Rattle.decoding_spec.specs.Walk.{numbered_from, choice_in}
 use Rattle.decoding_theorems.proofs.Records.{root-low}
-use Rattle.setting.specs.Fixed.{total_place, gathered_place, starts_place, fixed_of, layout_in, expression_start, setting_in, Fixed}
+use Rattle.setting.specs.Fixed.{fixed_of, with_length, expression_start, setting_in, Fixed}
+use Rattle.setting.specs.declared.Prepared.{Prepared}
 use Rattle.setting.specs.Ranges.{RangeOf, chosen_among}
 
 -- each record obeys its rules
-pub obeyed-in : (b a : List ℕ) → Fixed b a → RulesHold (setting_in b a).description
+pub obeyed-in : (b : List ℕ) (a : Prepared) → Fixed b a → RulesHold (setting_in b a).description
 unfolding setting_in
-obeyed-in b a f = obeyed b (layout_in a) f.formed
+obeyed-in b a f = obeyed b a.layout f.formed
 
-pub some_in : (b a : List ℕ) → Fixed b a → 1 ≤ length (setting_in b a).description.constructors
+pub some_in : (b : List ℕ) (a : Prepared) → Fixed b a → 1 ≤ length (setting_in b a).description.constructors
 unfolding setting_in
-some_in b a f = rw (constructors-length b (layout_in a)) f.formed.room.some
+some_in b a f = rw (constructors-length b a.layout) f.formed.room.some
 
-pub few-in : (b a : List ℕ) → Fixed b a → length (setting_in b a).description.constructors ≤ most_constructors
+pub few-in : (b : List ℕ) (a : Prepared) → Fixed b a → length (setting_in b a).description.constructors ≤ most_constructors
 unfolding setting_in
-few-in b a f = rw (constructors-length b (layout_in a)) f.formed.room.few
+few-in b a f = rw (constructors-length b a.layout) f.formed.room.few
 
--- the numbers that `fill` makes are those of their description
+-- what `fill` makes is of its description
 pub fixed-of : (b : List ℕ) (l : Layout) (gather : Bool) → WellFormed b l → Fixed b (fixed_of (description b l) l gather)
-unfolding fixed_of
-fixed-of b l true f = record { long = let e = starts-length (description b l) in omega arith; formed = f; gathered = λ z. refl }
-fixed-of b l false f = record { long = refl; formed = f; gathered = λ z. absurd (omega arith) }
+fixed-of b l true f = record { formed = f; gathered = λ starts e. let z : table_starts (description b l) ≡ starts = cc in sym z }
+fixed-of b l false f = record { formed = f; gathered = λ starts e. cc }
 
 pub setting-of : (b : List ℕ) (l : Layout) (gather : Bool) → (setting_in b (fixed_of (description b l) l gather)).description ≡ description b l
-unfolding fixed_of setting_in
+unfolding setting_in
 setting-of b l gather = refl
 
 -- told an input's length
-module _ (b a : List ℕ) (n : ℕ) where
-  other : (k : ℕ) → (k ≡ total_place → ⊥) → get_or (set a total_place n) k 0 ≡ get_or a k 0
-  other k h = get_or-set_other a total_place k n 0 h
+module _ (b : List ℕ) (a : Prepared) (n : ℕ) where
+  pub fixed-for : Fixed b a → Fixed b (with_length n a)
+  fixed-for f = record { formed = f.formed; gathered = f.gathered }
 
-  layout-for : layout_in (set a total_place n) ≡ layout_in a
-  layout-for =
-      rw (other 0 (λ e. omega arith), other 1 (λ e. omega arith), other 2 (λ e. omega arith), other 3 (λ e. omega arith), other 4 (λ e. omega arith), other 5 (λ e. omega arith), other 6 (λ e. omega arith), other 7 (λ e. omega arith), other 8 (λ e. omega arith), other 9 (λ e. omega arith), other 10 (λ e. omega arith), other 11 (λ e. omega arith), other 12 (λ e. omega arith), other 13 (λ e. omega arith))
-
-  pub fixed-for : Fixed b a → Fixed b (set a total_place n)
-  fixed-for f =
-      record {
-        long = length-set a total_place n ∙ f.long;
-        formed = rw layout-for f.formed;
-        gathered = λ z. rw (layout-for, drop-set-lt starts_place a total_place n (omega arith)) (f.gathered (rw (other gathered_place (λ e. omega arith)) at z));
-      }
-
-  pub setting-for : total_place < length a → setting_in b (set a total_place n) ≡ with_total n (setting_in b a)
+  pub setting-for : setting_in b (with_length n a) ≡ with_total n (setting_in b a)
   unfolding setting_in
-  setting-for h = rw (layout-for, get_or-set_same a total_place n 0 h)
+  setting-for = refl
 
-module _ (d : Description) (o : RulesHold d) (t : ℕ) (low : t < tables) (a : List ℕ) (starts : drop starts_place a ≡ table_starts d) where
-  at : (k : ℕ) → k ≤ tables → get_or a (starts_place + k) 0 ≡ table_first d k
-  at k h = sym (get_or-drop starts_place a k 0) ∙ rw starts (start-at d k h)
+module _ (d : Description) (o : RulesHold d) (t : ℕ) (low : t < tables) (starts : List ℕ) (are : starts ≡ table_starts d) where
+  at : (k : ℕ) → k ≤ tables → get_or starts k 0 ≡ table_first d k
+  at k h = rw are (start-at d k h)
 
-  here : get_or a (starts_place + t) 0 ≡ table_first d t
+  here : get_or starts t 0 ≡ table_first d t
   here = at t (omega arith)
 
-  next : get_or a (starts_place + t + 1) 0 ≡ table_end d t
-  next = ap (λ (k : ℕ). get_or a k 0) (omega arith) ∙ at (t + 1) (omega arith) ∙ sym (end_is d t)
+  next : get_or starts (t + 1) 0 ≡ table_end d t
+  next = at (t + 1) (omega arith) ∙ sym (end_is d t)
 
-  pub in_order : get_or a (starts_place + t) 0 ≤ get_or a (starts_place + t + 1) 0
+  pub in_order : get_or starts t 0 ≤ get_or starts (t + 1) 0
   in_order = rw (here, next) (first-within d o t)
 
-  pub gathered-range : RangeOf d t (record { first = get_or a (starts_place + t) 0; count = get_or a (starts_place + t + 1) 0 - get_or a (starts_place + t) 0 })
+  pub gathered-range : RangeOf d t (record { first = get_or starts t 0; count = get_or starts (t + 1) 0 - get_or starts t 0 })
   gathered-range = record { first = here; count = rw (here, next) }
 
 module _ (d : Description) (o : RulesHold d) (t : ℕ) (r : Table) (range : RangeOf d t r) where
@@ -99,39 +86,39 @@ module _ (d : Description) (o : RulesHold d) (t : ℕ) (r : Table) (range : Rang
   chosen s c = rw (range.count, range.first)
 
 -- by what was chosen
-module _ (d : Description) (r : Table) (s : List ℕ) (c : ℕ) (q : Choice) (e : choose (pattern_from d r.first) r.count s c ≡ q) where
+module _ (d : Description) (r : Table) (s : List ℕ) (c : ℕ) (q : Result ℕ NotChosen) (e : choose (pattern_from d r.first) r.count s c ≡ q) where
   pub among : numbered_from r.first q ≡ chosen_among d r s c
   among = ap (numbered_from r.first) (sym e)
 
-pub taken-inside : (d : Description) (r : Table) (s : List ℕ) (c j : ℕ) → choose (pattern_from d r.first) r.count s c ≡ choice.Taken j
+pub taken-inside : (d : Description) (r : Table) (s : List ℕ) (c j : ℕ) → choose (pattern_from d r.first) r.count s c ≡ Ok j
     → r.first + r.count ≤ length d.constructors → r.first + j < length d.constructors
 taken-inside d r s c j e h = omega (arith, (taken-facts (pattern_from d r.first) r.count s c j e).within)
 
 -- the root's range, where the tables' first constructors were gathered
-module _ (d : Description) (o : RulesHold d) (some : 1 ≤ length d.constructors) (a : List ℕ) (starts : drop starts_place a ≡ table_starts d)
+module _ (d : Description) (o : RulesHold d) (some : 1 ≤ length d.constructors) (starts : List ℕ) (are : starts ≡ table_starts d)
     (n : ℕ) (e : n ≡ length d.constructors) where
-  first : get_or a (starts_place + root_of d) 0 ≡ table_first d (root_of d)
-  first = (gathered-range d o (root_of d) (root-low d o some) a starts).first
+  first : get_or starts (root_of d) 0 ≡ table_first d (root_of d)
+  first = (gathered-range d o (root_of d) (root-low d o some) starts are).first
 
-  pub root-first-within : get_or a (starts_place + root_of d) 0 ≤ n
+  pub root-first-within : get_or starts (root_of d) 0 ≤ n
   root-first-within = omega (arith, first, first-within d o (root_of d), end-within d o (root_of d))
 
-  pub gathered-root : RangeOf d (root_of d) (record { first = get_or a (starts_place + root_of d) 0; count = n - get_or a (starts_place + root_of d) 0 })
+  pub gathered-root : RangeOf d (root_of d) (record { first = get_or starts (root_of d) 0; count = n - get_or starts (root_of d) 0 })
   gathered-root = record { first = first; count = rw (first, root-end d o some, e) }
 
 -- the input's length
-pub total-in : (b a : List ℕ) → (setting_in b a).total ≡ get_or a total_place 0
+pub total-in : (b : List ℕ) (a : Prepared) → (setting_in b a).total ≡ a.total
 unfolding setting_in
 total-in b a = refl
 
 -- the expression that stands there
-pub expression-in : (b a : List ℕ) (i : ℕ) → i < length (setting_in b a).description.expressions
+pub expression-in : (b : List ℕ) (a : Prepared) (i : ℕ) → i < length (setting_in b a).description.expressions
     → get_or (setting_in b a).description.expressions i no_expression ≡ expression_at b (expression_start a i)
 unfolding setting_in
-expression-in b a i h = expression-here b (layout_in a) i (rw expressions-length at h)
+expression-in b a i h = expression-here b a.layout i (rw expressions-length at h)
 
 -- it lies inside the bytes
-pub expression-inside : (b a : List ℕ) (i : ℕ) → Fixed b a → i < length (setting_in b a).description.expressions
+pub expression-inside : (b : List ℕ) (a : Prepared) (i : ℕ) → Fixed b a → i < length (setting_in b a).description.expressions
     → expression_start a i + expression_bytes ≤ length b
 unfolding setting_in
-expression-inside b a i f h = let e : i < (layout_in a).expressions.count = rw expressions-length at h in omega (arith, f.formed.room.expressions)
+expression-inside b a i f h = let e : i < a.layout.expressions.count = rw expressions-length at h in omega (arith, f.formed.room.expressions)

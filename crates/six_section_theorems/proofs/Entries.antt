@@ -4,12 +4,12 @@ use mathlib.Core.List.{List, [], ◌∷◌}
 use mathlib.Core.Path.{◌≡◌, ap, fun_ext, ◌∙◌}
 use lib.IntN.{ℤ}
 use lib.ListN.{length, get_or, drop}
+use Rattle.std.proofs.Common.{Option, Ok}
 use Rattle.format.specs.Numbers.{sweep_numbers}
 use Rattle.format.specs.Description.{description}
 use Rattle.format.specs.declared.Layout.{Layout}
 use Rattle.format.proofs.Formation.{obeyed}
 use Rattle.acceptance.specs.Acceptance.{acceptance_of}
-use Rattle.acceptance.specs.declared.Acceptance.TheVariants.{Accepted}
 use Rattle.acceptance.proofs.Facts.{accepted-formed}
 use Rattle.decoding_spec.specs.Instruction.{instruction_of}
 use Rattle.decoding.specs.Decoding as decoding
@@ -20,14 +20,14 @@ use Rattle.sweep.specs.Sweep as sweeping
 use Rattle.sweep.specs.Sweep.{Sweep, step_by, sweep_by, sweep_in, sweep_of, buffer_with}
 use Rattle.sweep_theorems.specs.Unaligned.{unaligned_step, unaligned_sweep}
 use Rattle.sweep_theorems.proofs.Unaligned.{sweep-unaligned}
-use Rattle.sweep.specs.declared.Step.{Step}
+use Rattle.sweep.specs.declared.Row.{Row}
 use Rattle.listing_lines.specs.Line.{shown_by, next_by, shown_at, next_at}
 use Rattle.listing_lines.proofs.Unaligned.{shown-unaligned, next-unaligned}
 use Rattle.six_section_theorems.specs.Base.{instruction_base, sweep_base}
 use Rattle.six_section_theorems.proofs.Walks.{decodes-as-before}
 
 -- bytes b are an accepted description without expressions
-module _ (b : List ℕ) (l : Layout) (e : acceptance_of b ≡ Accepted l) (none-there : length (description b l).expressions ≡ 0) (c a : ℕ) (s : List ℕ) where
+module _ (b : List ℕ) (l : Layout) (e : acceptance_of b ≡ Ok l) (none-there : length (description b l).expressions ≡ 0) (c a : ℕ) (s : List ℕ) where
   before : (a : ℕ) (s : List ℕ) → instruction_of (description b l) c a s ≡ instruction_base (description b l) c s
   before a s = decodes-as-before (description b l) (obeyed b l (accepted-formed b l e)) none-there c a s
 
@@ -51,11 +51,11 @@ module _ (b : List ℕ) (l : Layout) (e : acceptance_of b ≡ Accepted l) (none-
   unfolding unaligned_sweep unaligned_step sweep_base
   swept numbers =
       sweep-unaligned (description b l) c a s numbers
-      ∙ ap (λ (f : ℕ → Step). sweep_by f (length s) (numbers / sweep_numbers) 0) (fun_ext λ at. ap (step_by 1) (before (a + at) (drop at s)))
+      ∙ ap (λ (f : ℕ → Option Row). sweep_by f (length s) (numbers / sweep_numbers) 0) (fun_ext λ at. ap (step_by 1) (before (a + at) (drop at s)))
 
-  pub sweep-as-before : (numbers : ℕ) → sweep_of b c a 1 s numbers ≡ sweeping.answer_of (sweep_base (description b l) c s numbers)
+  pub sweep-as-before : (numbers : ℕ) → sweep_of b c a 1 s numbers ≡ Ok (sweeping.answer_of (sweep_base (description b l) c s numbers))
   unfolding sweep_of
-  sweep-as-before numbers = rw e (ap sweeping.answer_of (swept numbers))
+  sweep-as-before numbers = rw e (ap (λ (w : Sweep). Ok (sweeping.answer_of w)) (swept numbers))
 
   pub lent-rows-as-before : (old : List ℤ) → sweeping.buffer_after b c a 1 s old ≡ buffer_with (sweep_base (description b l) c s (length old)).rows old
   unfolding sweeping.buffer_after

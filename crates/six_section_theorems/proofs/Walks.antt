@@ -14,11 +14,12 @@ use Rattle.format.specs.Tables.{root_of}
 use Rattle.format.specs.declared.Constructor.{Constructor}
 use Rattle.format.specs.declared.Operand.{Operand}
 use Rattle.format.proofs.Formation.{RulesHold}
-use Rattle.choosing_spec.specs.declared.Choice.{Choice}
-use Rattle.choosing_spec.specs.declared.Choice.TheVariants as choice
+use Rattle.std.proofs.Common.{Result, Ok, Err}
+use Rattle.choosing_spec.specs.declared.NotChosen.{NotChosen}
+use Rattle.choosing_spec.specs.declared.NotChosen.TheVariants as choice
 use Rattle.decoding_spec.specs.State.{Setting, setting_of, starting, counted}
 use Rattle.decoding_spec.specs.Tree.{Nodes, more}
-use Rattle.decoding_spec.specs.Walk.{Result, done, refused, Walker, and_then, choice_in, start_of, operand_from, operands_from, closing, constructor_from, taking, table_from, walk_from, reject_empty, walked_from, walked_of}
+use Rattle.decoding_spec.specs.Walk.{Result as WalkResult, done, refused, Walker, and_then, choice_in, start_of, operand_from, operands_from, closing, constructor_from, taking, table_from, walk_from, reject_empty, walked_from, walked_of}
 use Rattle.decoding_spec.specs.Instruction.{instruction_of}
 use Rattle.decoding_spec.specs.declared.State.{State}
 use Rattle.decoding_theorems.proofs.Records.{expression-placed}
@@ -26,7 +27,7 @@ use Rattle.decoding_theorems.proofs.Shapes.{without-expressions}
 use Rattle.six_section_theorems.specs.Base.{operand_base, operands_base, constructor_base, taking_base, table_base, walk_base, instruction_base}
 
 -- what follows is the same
-then_same : {A B : Type 0} (r : Result A) (f h : A → ℕ → State → Result B) → ((a : A) (l : ℕ) (st : State) → f a l st ≡ h a l st) → and_then r f ≡ and_then r h
+then_same : {A B : Type 0} (r : WalkResult A) (f h : A → ℕ → State → WalkResult B) → ((a : A) (l : ℕ) (st : State) → f a l st ≡ h a l st) → and_then r f ≡ and_then r h
 then_same (done a l st) f h e = e a l st
 then_same (refused x) f h e = refl
 
@@ -60,7 +61,7 @@ module _ (g : Setting) (o : RulesHold g.description) (z : length g.description.e
       rw (operand-base w (first + i) s at (start_of ends x) st)
       (then_same (operand_base g w x s at (start_of ends x) st) _ _
       (λ n size st.
-      ap (λ (r : Result Nodes). and_then r λ f far st. done (more n f) far st)
+      ap (λ (r : WalkResult Nodes). and_then r λ f far st. done (more n f) far st)
       (operands-base w first s at left (i + 1) (set ends (i + 1) (start_of ends x + size)) (max far (start_of ends x + size)) st)))
 
   constructor-base : (w : Walker) (n : ℕ) (k : Constructor) (s : List ℕ) (at : ℕ) (st : State) → constructor_from g w n k s at st ≡ constructor_base g w n k s at st
@@ -68,11 +69,11 @@ module _ (g : Setting) (o : RulesHold g.description) (z : length g.description.e
   constructor-base w n k s at st =
       ap (closing g n k.minimum at) (operands-base w k.operands.first s at k.operands.count 0 (replicate (operands_each + 1) 0) 0 (counted st))
 
-  taking-base : (w : Walker) (t : ℕ) (s : List ℕ) (at : ℕ) (st : State) (x : Choice) → taking g w t s at st x ≡ taking_base g w t s at st x
-  taking-base w t s at st choice.Short = refl
-  taking-base w t s at st choice.NoMatch = refl
-  taking-base w t s at st (choice.Taken n) = constructor-base w n (get_or g.description.constructors n no_constructor) s at st
-  taking-base w t s at st choice.Ambiguous = refl
+  taking-base : (w : Walker) (t : ℕ) (s : List ℕ) (at : ℕ) (st : State) (x : Result ℕ NotChosen) → taking g w t s at st x ≡ taking_base g w t s at st x
+  taking-base w t s at st (Err choice.Short) = refl
+  taking-base w t s at st (Err choice.NoMatch) = refl
+  taking-base w t s at st (Ok n) = constructor-base w n (get_or g.description.constructors n no_constructor) s at st
+  taking-base w t s at st (Err choice.Ambiguous) = refl
 
   table-base : (w : Walker) (t : ℕ) (s : List ℕ) (at : ℕ) (st : State) → table_from g w t s at st ≡ table_base g w t s at st
   unfolding table_from table_base

@@ -8,6 +8,7 @@ use borrow.Author.Tests.{le-leb, lt-leb}
 use lib.IntN.{ℤ, pos}
 use lib.ListN.{length, take, drop, set, length-append, length-drop}
 use lib.Seq.{sets-eq, take_at, drop-append-add, drop-drop}
+use Rattle.std.proofs.Common.{None}
 use Rattle.format.specs.Numbers.{sweep_numbers}
 use Rattle.format.specs.Check.{WellFormed}
 use Rattle.format.specs.Description.{Description, description}
@@ -17,15 +18,14 @@ use Rattle.decoding_spec.specs.State.{Setting}
 use Rattle.decoding_spec.specs.Instruction.{instruction_of}
 use Rattle.setting.specs.Fixed.{Fixed, fixed_of, setting_in}
 use Rattle.setting.proofs.Laws.{obeyed-in, few-in, fixed-of, setting-of, fixed-for, setting-for}
+use Rattle.setting.specs.declared.Prepared.{Prepared}
 use Rattle.walking.specs.Walks.{told_length}
 use Rattle.instructions.specs.Instructions.{result_at}
-use Rattle.sweep.specs.Sweep.{SweepRow, Sweep, joined, end_at, row_at, no_root, aligned_step, step_at, sweep_by, sweep_from, sweep_in, numbers_of}
+use Rattle.sweep.specs.Sweep.{SweepRow, Sweep, joined, end_at, row_at, row_of, no_root, aligned_step, step_at, sweep_by, sweep_from, sweep_in, numbers_of}
 use Rattle.sweep.specs.Buffer.{Outcome, OutcomeIn, StillFixed, buffer_with_row}
 use Rattle.sweep.specs.declared.End.{End}
 use Rattle.sweep.specs.declared.End.TheVariants as end
-use Rattle.sweep.specs.declared.Step.TheVariants.{Row, Stop}
 use Rattle.sweep.specs.declared.Swept.{Swept}
-use Rattle.sweep.specs.declared.Swept.TheVariants.{Ended}
 use Rattle.sweep.proofs.Places.{Fits, step_fits}
 
 pub put_four : (l : List ℤ) (i k a b c d : ℕ) → k ≡ sweep_numbers * i → sweep_numbers * (i + 1) ≤ length l
@@ -72,12 +72,12 @@ module _ (d : Description) (c a u : ℕ) (s : List ℕ) where
   unfolding sweep_by
   no_room room at h e = rw (e, lt-leb (length s) at h)
 
-  pub stops : (room at : ℕ) → at < length s → 0 < room → step_at d c a u s at ≡ Stop → sweep_from d c a u s room at ≡ end_at end.Short at
+  pub stops : (room at : ℕ) → at < length s → 0 < room → step_at d c a u s at ≡ None → sweep_from d c a u s room at ≡ end_at end.Short at
   unfolding sweep_by
   stops zero at h r e = absurd (omega arith)
   stops (suc room) at h r e = rw (lt-leb (length s) at h, e)
 
-  pub goes_on : (room at l x k : ℕ) → at < length s → 0 < room → step_at d c a u s at ≡ Row l x k
+  pub goes_on : (room at l x k : ℕ) → at < length s → 0 < room → step_at d c a u s at ≡ row_of l x k
       → sweep_from d c a u s room at ≡ joined (row_at at l x k ∷ []) (sweep_from d c a u s (room - 1) (at + l))
   unfolding sweep_by
   goes_on zero at l x k h r e = absurd (omega arith)
@@ -106,18 +106,18 @@ module _ (d : Description) (c a u : ℕ) (s : List ℕ) where
         ∙ omega (arith, numbers-length turn.written, turn.count, length-drop (sweep_numbers * n) old, turn.few, turn.lent)
 
     -- the end: nothing comes behind the rows that are written
-    pub swept : (why : End) → sweep_from d c a u s (room - n) at ≡ end_at why at → Outcome (sweep_from d c a u s room 0) (Ended why n at) old new
+    pub swept : (why : End) → sweep_from d c a u s (room - n) at ≡ end_at why at → Outcome (sweep_from d c a u s room 0) (record { why = why; rows = n; next = at }) old new
     swept why e =
         let whole : sweep_from d c a u s room 0 ≡ record { rows = turn.written ++ []; why = why; next = at } = turn.whole ∙ ap (joined turn.written) e in
         let all : turn.written ++ [] ≡ turn.written = append-nil turn.written in
         rw whole
         (record {
-          answer = rw all (ap (λ (m : ℕ). Ended why m at) (sym turn.count));
+          answer = rw all (ap (λ (m : ℕ). record { why = why; rows = m; next = at }) (sym turn.count));
           rows = rw (all, turn.count) turn.rows;
         })
 
     -- one row more
-    pub next_row : (l x k : ℕ) (new' : List ℤ) → at < length s → n < room → step_at d c a u s at ≡ Row l x k → at + l ≤ length s
+    pub next_row : (l x k : ℕ) (new' : List ℤ) → at < length s → n < room → step_at d c a u s at ≡ row_of l x k → at + l ≤ length s
         → new' ≡ buffer_with_row n (row_at at l x k) new → Progress room old new' (at + l) (n + 1)
     next_row l x k new' h f e g p =
         let r : SweepRow = row_at at l x k in
@@ -140,34 +140,34 @@ module _ (d : Description) (c a u : ℕ) (s : List ℕ) where
         }
 
 -- nothing has changed, or the walk was told how many bytes are left
-pub still-here : (b a : List ℕ) → Fixed b a → StillFixed b a a
+pub still-here : (b : List ℕ) (a : Prepared) → Fixed b a → StillFixed b a a
 still-here b a f = record { fixed = f; same = refl }
 
-pub still-told : (b a s : List ℕ) (at : ℕ) (a' : List ℕ) → Fixed b a → a' ≡ told_length a s at → StillFixed b a a'
+pub still-told : (b : List ℕ) (a : Prepared) (s : List ℕ) (at : ℕ) (a' : Prepared) → Fixed b a → a' ≡ told_length a s at → StillFixed b a a'
 still-told b a s at a' f told =
     rw told
     (record {
       fixed = fixed-for b a (length s - at) f;
-      same = ap (λ (g : Setting). g.description) (setting-for b a (length s - at) (omega (arith, f.long)));
+      same = ap (λ (g : Setting). g.description) (setting-for b a (length s - at));
     })
 
--- the loop after n rows, at place `at`, with alignment u: b are the description's bytes, a₀ the fixed numbers at the start and a those now
-pub record LoopState (b a₀ : List ℕ) (c address u : ℕ) (s : List ℕ) (room : ℕ) (old new : List ℤ) (a : List ℕ) (at n : ℕ) : Type 0 where
+-- the loop after n rows, at place `at`, with alignment u: b are the description's bytes, a₀ what is fixed at the start and a those now
+pub record LoopState (b : List ℕ) (a₀ : Prepared) (c address u : ℕ) (s : List ℕ) (room : ℕ) (old new : List ℤ) (a : Prepared) (at n : ℕ) : Type 0 where
   pub still : StillFixed b a₀ a
   pub progress : Progress (setting_in b a₀).description c address u s room old new at n
 
-pub first-turn : (b a : List ℕ) (c address u : ℕ) (s : List ℕ) (room : ℕ) (old : List ℤ) → Fixed b a → sweep_numbers * room ≤ length old
+pub first-turn : (b : List ℕ) (a : Prepared) (c address u : ℕ) (s : List ℕ) (room : ℕ) (old : List ℤ) → Fixed b a → sweep_numbers * room ≤ length old
     → LoopState b a c address u s room old old a 0 0
 first-turn b a c address u s room old f h =
     record { still = still-here b a f; progress = no_row (setting_in b a).description c address u s room old h }
 
-module _ (b a₀ : List ℕ) (c address u : ℕ) (s : List ℕ) (room : ℕ) (old new : List ℤ) (a : List ℕ) (at n : ℕ) (turn : LoopState b a₀ c address u s room old new a at n) where
+module _ (b : List ℕ) (a₀ : Prepared) (c address u : ℕ) (s : List ℕ) (room : ℕ) (old new : List ℤ) (a : Prepared) (at n : ℕ) (turn : LoopState b a₀ c address u s room old new a at n) where
   -- the step at the place
   pub step-here : aligned_step u (address + at) (length s - at) (result_at b a s at c address) ≡ step_at (setting_in b a₀).description c address u s at
   unfolding result_at step_at
   step-here = ap (λ (d : Description). aligned_step u (address + at) (length s - at) (instruction_of d c (address + at) (drop at s))) turn.still.same
 
-  module _ (some : 0 < u) (l k x : ℕ) (e : aligned_step u (address + at) (length s - at) (result_at b a s at c address) ≡ Row l k x) (h : at < length s) where
+  module _ (some : 0 < u) (l k x : ℕ) (e : aligned_step u (address + at) (length s - at) (result_at b a s at c address) ≡ row_of l k x) (h : at < length s) where
     -- its row fits
     pub row_fits : Fits s at l x
     row_fits =
@@ -176,7 +176,7 @@ module _ (b a₀ : List ℕ) (c address u : ℕ) (s : List ℕ) (room : ℕ) (ol
         step_fits (setting_in b a₀).description o c address u some s at few h l k x (sym step-here ∙ e)
 
     -- and with it the loop goes on
-    pub next-turn : (new' : List ℤ) (a' : List ℕ) → n < room → StillFixed b a a' → new' ≡ buffer_with_row n (row_at at l k x) new
+    pub next-turn : (new' : List ℤ) (a' : Prepared) → n < room → StillFixed b a a' → new' ≡ buffer_with_row n (row_at at l k x) new
         → LoopState b a₀ c address u s room old new' a' (at + l) (n + 1)
     next-turn new' a' f still p =
         record {
@@ -184,8 +184,8 @@ module _ (b a₀ : List ℕ) (c address u : ℕ) (s : List ℕ) (room : ℕ) (ol
           progress = next_row _ c address u s room old new at n turn.progress l k x new' h f (sym step-here ∙ e) row_fits.here p;
         }
 
--- the fixed numbers are those that the description's places give
-module _ (b : List ℕ) (l : Layout) (a₀ : List ℕ) (is : a₀ ≡ fixed_of (description b l) l true) where
+-- what is fixed is what the description's places give
+module _ (b : List ℕ) (l : Layout) (a₀ : Prepared) (is : a₀ ≡ fixed_of (description b l) l true) where
   pub fixed-here : WellFormed b l → Fixed b a₀
   fixed-here f = rw is (fixed-of b l true f)
 

@@ -4,6 +4,7 @@ use Rattle.format.specs.Numbers.{sweep_numbers}
 use Rattle.format.specs.Description.{description}
 use Rattle.format.specs.declared.Layout.{Layout}
 use Rattle.setting.specs.Fixed.{Fixed, setting_in}
+use Rattle.setting.specs.declared.Prepared.{Prepared}
 use Rattle.sweep.specs.Sweep.{SweepRow, Sweep, numbers_of, sweep_in, answer_of, buffer_with}
 use Rattle.sweep.specs.declared.Swept.{Swept}
 
@@ -17,7 +18,7 @@ abbrev pub OutcomeIn : (b : List ℕ) (l : Layout) (c a n : ℕ) (s : List ℕ) 
 OutcomeIn b l c a n s old r new = Outcome (sweep_in (description b l) c a n s (length old)) r old new
 
 -- of the numbers that are fixed along the sweep: they are still those of the same description
-pub record StillFixed (b before after : List ℕ) : Type 0 where
+pub record StillFixed (b : List ℕ) (before after : Prepared) : Type 0 where
   pub fixed : Fixed b after
   pub same : (setting_in b after).description ≡ (setting_in b before).description
 

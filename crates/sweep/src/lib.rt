@@ -9,37 +9,50 @@ ghost use Rattle.setting.specs.Fixed.{Fixed};
 ghost use Rattle.instructions.specs.Instructions.{result_at};
 ghost use Rattle.sweep.specs.Sweep.{gap, aligned_step, row_at, sweep_of, buffer_after};
 ghost use Rattle.sweep.specs.Buffer.{OutcomeIn, StillFixed, buffer_with_row};
+ghost use Rattle.sweep.specs.declared.SweepError.TheVariants.{Rejected};
 
-use acceptance::{Acceptance, Rejection};
+use acceptance::Rejection;
 use decoding_spec::Refusal;
 use format::Layout;
-use instructions::Stepped;
-use setting::FIXED;
+use setting::Prepared;
 
 // Why a sweep ended: the code is used up, no whole row is left, or the code is short.
-#[derive(Clone, Copy)]
+#[derive(Clone, Copy, PartialEq, Eq)]
 pub enum End {
     Used,
     Full,
     Short,
 }
 
+// Why a sweep ended, how many rows it wrote, and the next byte.
+#[derive(Clone, Copy, PartialEq, Eq)]
+pub struct Swept {
+    pub why: End,
+    pub rows: usize,
+    pub next: usize,
+}
+
+// Why nothing is swept: the description is no such one, or there is no such alignment.
 #[derive(Clone, Copy)]
-pub enum Swept {
-    Ended { why: End, rows: usize, next: usize },
+pub enum SweepError {
     Rejected(Rejection),
     NoAlignment(u32),
 }
 
-// What a place comes to: a row's length, answer and root constructor, or that the code is short there.
-#[derive(Clone, Copy)]
-pub enum Step {
-    Row {
-        length: usize,
-        answer: u8,
-        constructor: usize,
-    },
-    Stop,
+impl From<Rejection> for SweepError {
+    ghost from_gives = { λ x e. e ≡ Rejected x };
+
+    fn from(rejection: Rejection) -> SweepError {
+        SweepError::Rejected(rejection)
+    }
+}
+
+// What a place comes to: a row's length, answer and root constructor.
+#[derive(Clone, Copy, PartialEq, Eq)]
+pub struct Row {
+    pub length: usize,
+    pub answer: u8,
+    pub constructor: usize,
 }
 
 const NUMBERS: usize = format::SWEEP_NUMBERS;
@@ -47,70 +60,67 @@ const NUMBERS: usize = format::SWEEP_NUMBERS;
 // The constructor of a gap.
 const NO_ROOT: usize = 65535;
 
-// A gap of this length, with the refusal's number.
-fn gap_of(length: usize, refusal: Refusal) -> Step
+// A gap of this length, with the refusal's number; none where the code is short.
+fn gap_of(length: usize, refusal: Refusal) -> Option<Row>
     ensures { result ≡ gap length refusal }
 {
-    if decoding_spec::is_short(refusal) {
-        return Step::Stop;
+    if refusal.is_short() {
+        return None;
     }
-    Step::Row {
+    Some(Row {
         length,
-        answer: decoding_spec::refusal_number(refusal),
+        answer: refusal.number(),
         constructor: NO_ROOT,
-    }
+    })
 }
 
-// The decoding at a place, from there to the end of the code, whose byte 0 has this address; or that it is no multiple.
+// The decoding at a place, from there to the end of the code, whose byte 0 has this address; or that it is no multiple. None where the
+// code is short.
 fn step_at(
     desc: &[u8],
-    fixed: &mut [usize; FIXED],
+    fixed: &mut Prepared,
     context: u32,
     address: u32,
     alignment: usize,
     code: &[u8],
     at: usize,
-) -> Step
+) -> Option<Row>
     requires { Fixed desc.now fixed.old × (at ≤ length code.now) × (is_alignment alignment ≡ true) }
     ensures value { result ≡ aligned_step alignment (address + at) (length code.now - at) (result_at desc.now fixed.old code.now at context address) }
     ensures still_fixed { StillFixed desc.now fixed.old fixed.new }
 {
     let here = (address as usize) + at;
     if !alignment::is_multiple(alignment, here) {
-        return Step::Row {
+        return Some(Row {
             length: alignment::gap_length(alignment, here, code.len() - at),
             answer: alignment::NO_MULTIPLE,
             constructor: NO_ROOT,
-        };
+        });
     }
-    let found = instructions::step_at(desc, fixed, context, address, code, at);
-    match found {
-        Stepped::Refused(refusal) => gap_of(
+    match instructions::step_at(desc, fixed, context, address, code, at) {
+        Ok(step) => Some(Row {
+            length: step.length,
+            answer: 0,
+            constructor: step.constructor,
+        }),
+        Err(refusal) => gap_of(
             alignment::gap_length(alignment, here, code.len() - at),
             refusal,
         ),
-        Stepped::Whole {
-            length,
-            constructor,
-        } => Step::Row {
-            length,
-            answer: 0,
-            constructor,
-        },
     }
 }
 
 // Row i of the lent rows.
-fn put_row(rows: &mut [i64], i: usize, start: usize, size: usize, answer: u8, constructor: usize)
+fn put_row(rows: &mut [i64], i: usize, start: usize, row: Row)
     requires i_in_bounds { sweep_numbers * (i + 1) ≤ length rows.old }
-    requires start_bound { (start < 2 ^ 63) × (size < 2 ^ 63) × (constructor < 2 ^ 63) }
-    ensures { rows.new ≡ buffer_with_row i (row_at start size answer constructor) rows.old }
+    requires start_bound { (start < 2 ^ 63) × (row.length < 2 ^ 63) × (row.constructor < 2 ^ 63) }
+    ensures { rows.new ≡ buffer_with_row i (row_at start row.length row.answer row.constructor) rows.old }
 {
     let at = NUMBERS * i;
     rows[at] = start as i64;
-    rows[at + 1] = size as i64;
-    rows[at + 2] = answer as i64;
-    rows[at + 3] = constructor as i64;
+    rows[at + 1] = row.length as i64;
+    rows[at + 2] = row.answer as i64;
+    rows[at + 3] = row.constructor as i64;
 }
 
 fn sweep_in(
@@ -131,33 +141,25 @@ fn sweep_in(
     let mut n = 0;
     while at < code.len() {
         if n == room {
-            return Swept::Ended {
+            return Swept {
                 why: End::Full,
                 rows: n,
                 next: at,
             };
         }
         let found = step_at(desc, &mut fixed, context, address, alignment, code, at);
-        match found {
-            Step::Stop => {
-                return Swept::Ended {
-                    why: End::Short,
-                    rows: n,
-                    next: at,
-                };
-            }
-            Step::Row {
-                length,
-                answer,
-                constructor,
-            } => {
-                put_row(rows, n, at, length, answer, constructor);
-                at += length;
-                n += 1;
-            }
-        }
+        let Some(row) = found else {
+            return Swept {
+                why: End::Short,
+                rows: n,
+                next: at,
+            };
+        };
+        put_row(rows, n, at, row);
+        at += row.length;
+        n += 1;
     }
-    Swept::Ended {
+    Swept {
         why: End::Used,
         rows: n,
         next: at,
@@ -172,19 +174,14 @@ pub fn sweep(
     alignment: u32,
     code: &[u8],
     rows: &mut [i64],
-) -> Swept
+) -> Result<Swept, SweepError>
     ensures value { result ≡ sweep_of desc.now context address alignment code.now (length rows.old) }
     ensures rows_after { rows.new ≡ buffer_after desc.now context address alignment code.now rows.old }
 {
-    let acceptance = acceptance::accept(desc);
-    match acceptance {
-        Acceptance::Accepted(layout) => {
-            if alignment::is_alignment(alignment) {
-                let unit = alignment as usize;
-                return sweep_in(desc, layout, context, address, unit, code, rows);
-            }
-            Swept::NoAlignment(alignment)
-        }
-        Acceptance::Rejected(rejection) => Swept::Rejected(rejection),
+    let layout = acceptance::accept(desc)?;
+    if !alignment::is_alignment(alignment) {
+        return Err(SweepError::NoAlignment(alignment));
     }
+    let unit = alignment as usize;
+    Ok(sweep_in(desc, layout, context, address, unit, code, rows))
 }

@@ -9,6 +9,7 @@ use borrow.Author.Tests.{leb-false}
 use lib.Dec.{leb}
 use lib.IntN.{ℤ}
 use lib.ListN.{length, take, drop, length-append}
+use Rattle.std.proofs.Common.{Option, Some, None, Result, Ok, Err}
 use lib.Seq.{take-append-le, take_at, take-nil}
 use Rattle.alignment.specs.Alignment.{is_alignment, is_multiple, gap_length}
 use Rattle.alignment.proofs.Laws.{alignment-some}
@@ -17,18 +18,16 @@ use Rattle.format.specs.Description.{Description, description}
 use Rattle.format.specs.declared.Layout.{Layout}
 use Rattle.format.proofs.Formation.{RulesHold, obeyed}
 use Rattle.acceptance.specs.Acceptance.{acceptance_of, accepting}
-use Rattle.acceptance.specs.declared.Acceptance.{Acceptance}
-use Rattle.acceptance.specs.declared.Acceptance.TheVariants as acceptance
-use Rattle.acceptance.specs.declared.Acceptance.TheVariants.{Accepted}
+use Rattle.acceptance.specs.declared.Rejection.{Rejection}
 use Rattle.acceptance.proofs.Facts.{accepted-formed}
-use Rattle.sweep.specs.Sweep.{SweepRow, Sweep, joined, end_at, row_at, row_then, step_at, sweep_by, sweep_from, numbers_of, sweep_in, answer_of, buffer_with, sweep_of, buffer_after, no_root}
+use Rattle.sweep.specs.Sweep.{SweepRow, Sweep, joined, end_at, row_at, row_of, row_then, step_at, sweep_by, sweep_from, numbers_of, sweep_in, answer_of, buffer_with, sweep_of, buffer_after, no_root}
 use Rattle.sweep_theorems.specs.Facts.{Extends, all-rows, cut-gap}
 use Rattle.sweep.specs.declared.End.{End}
 use Rattle.sweep.specs.declared.End.TheVariants as end
-use Rattle.sweep.specs.declared.Step.{Step}
-use Rattle.sweep.specs.declared.Step.TheVariants.{Row, Stop}
+use Rattle.sweep.specs.declared.Row.{Row}
 use Rattle.sweep.specs.declared.Swept.{Swept}
-use Rattle.sweep.specs.declared.Swept.TheVariants.{Ended, Rejected, NoAlignment}
+use Rattle.sweep.specs.declared.SweepError.{SweepError}
+use Rattle.sweep.specs.declared.SweepError.TheVariants.{Rejected, NoAlignment}
 use Rattle.sweep.proofs.Places.{Fits, few-records, step_fits, Longer, same, cut, step-longer}
 use Rattle.sweep.proofs.Turns.{numbers-length, used-up, no_room, goes_on}
 
@@ -69,9 +68,9 @@ module _ (d : Description) (o : RulesHold d) (few : length d.constructors ≤ no
       longer : at < length s → at < length (s ++ m)
       longer l = omega (arith, length-append s m)
 
-      here : at < length s → ((next : ℕ) → next ≤ length s → Grows room next (sweep_from d c a u s room next)) → (x : Step) → step_at d c a u s at ≡ x
-          → Grows (suc room) at (row_then at x (sweep_from d c a u s room))
-      here l rest (Row n x k) e = there (step-longer d o c a u some s at m l n x k e)
+      row : at < length s → ((next : ℕ) → next ≤ length s → Grows room next (sweep_from d c a u s room next)) → (n x k : ℕ) → step_at d c a u s at ≡ row_of n x k
+          → Grows (suc room) at (row_then at (row_of n x k) (sweep_from d c a u s room))
+      row l rest n x k e = there (step-longer d o c a u some s at m l n x k e)
         where
           f : Fits s at n k
           f = step_fits d o c a u some s at few l n x k e
@@ -79,7 +78,7 @@ module _ (d : Description) (o : RulesHold d) (few : length d.constructors ≤ no
           y : suc room - 1 ≡ room
           y = omega arith
 
-          there : Longer d o c a u some s at m n x k → Grows (suc room) at (row_then at (Row n x k) (sweep_from d c a u s room))
+          there : Longer d o c a u some s at m n x k → Grows (suc room) at (row_then at (row_of n x k) (sweep_from d c a u s room))
           there (same g) =
               rw (goes_on d c a u (s ++ m) (suc room) at n x k (longer l) (omega arith) g, y)
               (one_more room (row_at at n x k) _ _ (rest (at + n) f.here))
@@ -88,7 +87,11 @@ module _ (d : Description) (o : RulesHold d) (few : length d.constructors ≤ no
               (ap (joined (row_at at n x k ∷ [])) (used-up d c a u s room (at + n) (omega arith) ∙ ap (end_at end.Used) p) ∙ rw root)
               p apart some-answer
               (goes_on d c a u (s ++ m) (suc room) at _ x k (longer l) (omega arith) g ∙ rw root)
-      here l rest Stop e = no_more (suc room) at end.Short
+
+      here : at < length s → ((next : ℕ) → next ≤ length s → Grows room next (sweep_from d c a u s room next)) → (x : Option Row) → step_at d c a u s at ≡ x
+          → Grows (suc room) at (row_then at x (sweep_from d c a u s room))
+      here l rest (Some r) e = row l rest r.length r.answer r.constructor e
+      here l rest None e = no_more (suc room) at end.Short
 
       go : (b : Bool) → leb (length s) at ≡ b → ((next : ℕ) → next ≤ length s → Grows room next (sweep_from d c a u s room next))
           → Grows (suc room) at (cond b (end_at end.Used at) (row_then at (step_at d c a u s at) (sweep_from d c a u s room)))
@@ -110,12 +113,12 @@ module _ (d : Description) (o : RulesHold d) (few : length d.constructors ≤ no
       go false e q = record { all = refl; left = leb-false (length s) at e }
   is-full (suc room) at = go (leb (length s) at) (step_at d c a u s at) (λ next. is-full room next)
     where
-      here : (x : Step) → ((next : ℕ) → (sweep_from d c a u s room next).why ≡ end.Full → AllRows room (sweep_from d c a u s room next))
+      here : (x : Option Row) → ((next : ℕ) → (sweep_from d c a u s room next).why ≡ end.Full → AllRows room (sweep_from d c a u s room next))
           → (row_then at x (sweep_from d c a u s room)).why ≡ end.Full → AllRows (suc room) (row_then at x (sweep_from d c a u s room))
-      here (Row l x k) rest q = let r = rest (at + l) q in record { all = ap suc r.all; left = r.left }
-      here Stop rest q = let z : ◌≡◌ {A = ℕ} 0 1 = cc in absurd (omega arith)
+      here (Some x) rest q = let r = rest (at + x.length) q in record { all = ap suc r.all; left = r.left }
+      here None rest q = let z : ◌≡◌ {A = ℕ} 0 1 = cc in absurd (omega arith)
 
-      go : (b : Bool) (x : Step) → ((next : ℕ) → (sweep_from d c a u s room next).why ≡ end.Full → AllRows room (sweep_from d c a u s room next))
+      go : (b : Bool) (x : Option Row) → ((next : ℕ) → (sweep_from d c a u s room next).why ≡ end.Full → AllRows room (sweep_from d c a u s room next))
           → (cond b (end_at end.Used at) (row_then at x (sweep_from d c a u s room))).why ≡ end.Full
           → AllRows (suc room) (cond b (end_at end.Used at) (row_then at x (sweep_from d c a u s room)))
       go true x rest q = let z : ◌≡◌ {A = ℕ} 0 1 = cc in absurd (omega arith)
@@ -191,14 +194,14 @@ same_numbers k w w' old h = first w'.rows h.few' ∙ ap numbers_of h.rows ∙ sy
         take-append-le (sweep_numbers * k) (numbers_of rs) (drop (sweep_numbers * length rs) old) (omega (arith, numbers-length rs)) ∙ numbers-take k rs
 
 -- of any bytes that are a well-formed description, with the same numbers lent: what a sweep over s gives, and what the sweep over s ++ m
-pub sweep-extends : (b : List ℕ) (l : Layout) → acceptance_of b ≡ Accepted l → (c a u : ℕ) → is_alignment u ≡ true → (s m : List ℕ) (numbers : ℕ)
+pub sweep-extends : (b : List ℕ) (l : Layout) → acceptance_of b ≡ Ok l → (c a u : ℕ) → is_alignment u ≡ true → (s m : List ℕ) (numbers : ℕ)
     → Extends (description b l) c a u s m (numbers / sweep_numbers) (sweep_in (description b l) c a u s numbers) (sweep_in (description b l) c a u (s ++ m) numbers)
 unfolding sweep_in
 sweep-extends b l e c a u h s m numbers =
     let f = accepted-formed b l e in
     extends (description b l) (obeyed b l f) (few-records b l f) c a u (alignment-some u h) s m (numbers / sweep_numbers) 0 (omega arith)
 
-sweep-full : (b : List ℕ) (l : Layout) → acceptance_of b ≡ Accepted l → (c a u : ℕ) → is_alignment u ≡ true → (s m : List ℕ) (numbers : ℕ)
+sweep-full : (b : List ℕ) (l : Layout) → acceptance_of b ≡ Ok l → (c a u : ℕ) → is_alignment u ≡ true → (s m : List ℕ) (numbers : ℕ)
     → (sweep_in (description b l) c a u s numbers).why ≡ end.Full → sweep_in (description b l) c a u (s ++ m) numbers ≡ sweep_in (description b l) c a u s numbers
 unfolding sweep_in
 sweep-full b l e c a u h s m numbers q =
@@ -207,55 +210,58 @@ sweep-full b l e c a u h s m numbers q =
 
 -- at the entry point: bytes b as the description, the code s and s ++ m, and a sweep over s that ended so
 module _ (b : List ℕ) (c a u : ℕ) (s m : List ℕ) (old : List ℤ) (why : End) (n next : ℕ) where
-  abbrev answer : List ℕ → Bool → Acceptance → Swept
-  answer t h x = accepting Rejected (λ d. cond h (answer_of (sweep_in d c a u t (length old))) (NoAlignment u)) b x
+  abbrev answer : List ℕ → Bool → Result Layout Rejection → Result Swept SweepError
+  answer t h x = accepting (λ x. Err (Rejected x)) (λ d. cond h (Ok (answer_of (sweep_in d c a u t (length old)))) (Err (NoAlignment u))) b x
 
-  abbrev buffer : List ℕ → Bool → Acceptance → List ℤ
+  abbrev buffer : List ℕ → Bool → Result Layout Rejection → List ℤ
   buffer t h x = accepting (λ x. old) (λ d. cond h (buffer_with (sweep_in d c a u t (length old)).rows old) old) b x
 
-  begin : (k : ℕ) → ((w w' : Sweep) → answer_of w ≡ Ended why n next → ((d : Description) → Extends d c a u s m (length old / sweep_numbers) w w' → Alike k w w'))
-      → (h : Bool) → is_alignment u ≡ h → (x : Acceptance) → acceptance_of b ≡ x → answer s h x ≡ Ended why n next
+  begin : (k : ℕ) → ((w w' : Sweep) → answer_of w ≡ record { why = why; rows = n; next = next } → ((d : Description) → Extends d c a u s m (length old / sweep_numbers) w w' → Alike k w w'))
+      → (h : Bool) → is_alignment u ≡ h → (x : Result Layout Rejection) → acceptance_of b ≡ x → answer s h x ≡ Ok (record { why = why; rows = n; next = next })
       → take (sweep_numbers * k) (buffer (s ++ m) h x) ≡ take (sweep_numbers * k) (buffer s h x)
-  begin k alike true h (Accepted l) e q = same_numbers k _ _ old (alike _ _ q (description b l) (sweep-extends b l e c a u h s m (length old)))
-  begin k alike false h (Accepted l) e q = refl
-  begin k alike h f (acceptance.Rejected x) e q = refl
+  begin k alike true h (Ok l) e q =
+      let p : ◌≡◌ {A = Swept} (answer_of (sweep_in (description b l) c a u s (length old))) (record { why = why; rows = n; next = next }) = cc in
+      same_numbers k _ _ old (alike _ _ p (description b l) (sweep-extends b l e c a u h s m (length old)))
+  begin k alike false h (Ok l) e q = refl
+  begin k alike h f (Err x) e q = refl
 
   -- the numbers of its rows are the same whatever code follows, unless the code was used up and its end is no multiple ..
-  pub rows_stay : sweep_of b c a u s (length old) ≡ Ended why n next → ((why ≡ end.Used → ⊥) ⊎ (is_multiple u (a + length s) ≡ true))
+  pub rows_stay : sweep_of b c a u s (length old) ≡ Ok (record { why = why; rows = n; next = next }) → ((why ≡ end.Used → ⊥) ⊎ (is_multiple u (a + length s) ≡ true))
       → take (sweep_numbers * n) (buffer_after b c a u (s ++ m) old) ≡ take (sweep_numbers * n) (buffer_after b c a u s old)
   unfolding sweep_of buffer_after
   rows_stay q h = begin n alike (is_alignment u) refl (acceptance_of b) refl q
     where
-      alike : (w w' : Sweep) → answer_of w ≡ Ended why n next → (d : Description) → Extends d c a u s m (length old / sweep_numbers) w w' → Alike n w w'
+      alike : (w w' : Sweep) → answer_of w ≡ record { why = why; rows = n; next = next } → (d : Description) → Extends d c a u s m (length old / sweep_numbers) w w' → Alike n w w'
       alike w w' q d x =
-          let count : length w.rows ≡ n = cc in
-          let end_is : w.why ≡ why = cc in
+          let count : length w.rows ≡ n = ap (λ (r : Swept). r.rows) q in
+          let end_is : w.why ≡ why = ap (λ (r : Swept). r.why) q in
           rw count at (all_alike d c a u s m (length old / sweep_numbers) w w' x (rw end_is h))
 
   -- .. and those of all but the last are in every case
-  pub earlier-stay : sweep_of b c a u s (length old) ≡ Ended why n next
+  pub earlier-stay : sweep_of b c a u s (length old) ≡ Ok (record { why = why; rows = n; next = next })
       → take (sweep_numbers * (n - 1)) (buffer_after b c a u (s ++ m) old) ≡ take (sweep_numbers * (n - 1)) (buffer_after b c a u s old)
   unfolding sweep_of buffer_after
   earlier-stay q = begin (n - 1) alike (is_alignment u) refl (acceptance_of b) refl q
     where
-      alike : (w w' : Sweep) → answer_of w ≡ Ended why n next → (d : Description) → Extends d c a u s m (length old / sweep_numbers) w w' → Alike (n - 1) w w'
+      alike : (w w' : Sweep) → answer_of w ≡ record { why = why; rows = n; next = next } → (d : Description) → Extends d c a u s m (length old / sweep_numbers) w w' → Alike (n - 1) w w'
       alike w w' q d x =
-          let count : length w.rows ≡ n = cc in
+          let count : length w.rows ≡ n = ap (λ (r : Swept). r.rows) q in
           rw count at (earlier-alike d c a u s m (length old / sweep_numbers) w w' x)
 
 -- and where it ended "full", its answer and all lent numbers are
 module _ (b : List ℕ) (c a u : ℕ) (s m : List ℕ) (old : List ℤ) (n next : ℕ) where
-  stay : (h : Bool) → is_alignment u ≡ h → (x : Acceptance) → acceptance_of b ≡ x → answer b c a u s m old end.Full n next s h x ≡ Ended end.Full n next
+  stay : (h : Bool) → is_alignment u ≡ h → (x : Result Layout Rejection) → acceptance_of b ≡ x → answer b c a u s m old end.Full n next s h x ≡ Ok (record { why = end.Full; rows = n; next = next })
       → (answer b c a u s m old end.Full n next (s ++ m) h x ≡ answer b c a u s m old end.Full n next s h x)
       × (buffer b c a u s m old end.Full n next (s ++ m) h x ≡ buffer b c a u s m old end.Full n next s h x)
-  stay true h (Accepted l) e q =
-      let why : (sweep_in (description b l) c a u s (length old)).why ≡ end.Full = cc in
+  stay true h (Ok l) e q =
+      let p : ◌≡◌ {A = Swept} (answer_of (sweep_in (description b l) c a u s (length old))) (record { why = end.Full; rows = n; next = next }) = cc in
+      let why : (sweep_in (description b l) c a u s (length old)).why ≡ end.Full = ap (λ (r : Swept). r.why) p in
       let same = sweep-full b l e c a u h s m (length old) why in
-      (ap answer_of same, ap (λ (w : Sweep). buffer_with w.rows old) same)
-  stay false h (Accepted l) e q = (refl, refl)
-  stay h f (acceptance.Rejected x) e q = (refl, refl)
+      (ap (λ (w : Sweep). Ok (answer_of w)) same, ap (λ (w : Sweep). buffer_with w.rows old) same)
+  stay false h (Ok l) e q = (refl, refl)
+  stay h f (Err x) e q = (refl, refl)
 
-  pub full-stays : sweep_of b c a u s (length old) ≡ Ended end.Full n next
+  pub full-stays : sweep_of b c a u s (length old) ≡ Ok (record { why = end.Full; rows = n; next = next })
       → (sweep_of b c a u (s ++ m) (length old) ≡ sweep_of b c a u s (length old)) × (buffer_after b c a u (s ++ m) old ≡ buffer_after b c a u s old)
   unfolding sweep_of buffer_after
   full-stays q = stay (is_alignment u) refl (acceptance_of b) refl q

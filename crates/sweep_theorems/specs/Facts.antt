@@ -2,15 +2,14 @@
 use Rattle.std.specs.Prelude.{ℕ, ◌+◌, ◌-◌, ◌≤◌, true, false, not, List, [], ◌∷◌, ◌++◌, ◌≡◌, eqb, length}
 use Rattle.alignment.specs.Alignment.{is_multiple, gap_length, no_multiple}
 use Rattle.format.specs.Description.{Description}
-use Rattle.sweep.specs.Sweep.{SweepRow, Sweep, joined, end_at, row_at, no_root, step_at, sweep_from}
+use Rattle.sweep.specs.Sweep.{SweepRow, Sweep, joined, end_at, row_at, row_of, no_root, step_at, sweep_from}
 use Rattle.sweep.specs.declared.End.TheVariants as end
-use Rattle.sweep.specs.declared.Step.TheVariants.{Row}
 
 -- the rows go from one byte to the next without gap or overlap, none is empty, and "each row is that place's decoding"
 abbrev pub Tiles : Description → (context address alignment : ℕ) → List ℕ → ℕ → List SweepRow → ℕ → Type 0
 Tiles d c a n s at [] next = next ≡ at
 Tiles d c a n s at (r ∷ rs) next =
-    (r.start ≡ at) × (1 ≤ r.length) × (step_at d c a n s at ≡ Row r.length r.answer r.constructor) × Tiles d c a n s (at + r.length) rs next
+    (r.start ≡ at) × (1 ≤ r.length) × (step_at d c a n s at ≡ row_of r.length r.answer r.constructor) × Tiles d c a n s (at + r.length) rs next
 
 -- a sweep from a place on, which ends in the code or at its end
 pub record Tiled (d : Description) (c a n : ℕ) (s : List ℕ) (at : ℕ) (w : Sweep) : Type 0 where

@@ -5,19 +5,24 @@ ghost use Rattle.std.specs.Prelude.{◌≡◌, ◌+◌, ◌<◌};
 ghost use Rattle.format.specs.Layout.{SectionsInBounds};
 ghost use Rattle.format.specs.Check.{WellFormed};
 ghost use Rattle.format.specs.Description.{description};
-ghost use Rattle.patterns.specs.Relations.{weight};
 ghost use Rattle.choosing.specs.Patterns.{patterns_of};
-ghost use Rattle.table_query.specs.Asking.{ask_in, ask_of};
-ghost use Rattle.table_query.specs.declared.Asked.{Asked};
+ghost use Rattle.table_query.specs.Asking.{taken_from, ask_in, ask_of};
+ghost use Rattle.table_query.specs.declared.AskError.TheVariants.{Rejected};
 
-use acceptance::{Acceptance, Rejection};
-use choosing_spec::Choice;
+use acceptance::Rejection;
+use choosing_spec::NotChosen;
 use format::Layout;
 use tables::Table;
 
+// The taken constructor, with its pattern's weight.
 #[derive(Clone, Copy)]
-pub enum Asked {
-    Done { constructor: usize, weight: u32 },
+pub struct Asked {
+    pub constructor: usize,
+    pub weight: u32,
+}
+
+#[derive(Clone, Copy)]
+pub enum AskError {
     Rejected(Rejection),
     NoTable(u32),
     Short,
@@ -25,26 +30,34 @@ pub enum Asked {
     Ambiguous(u32),
 }
 
+impl From<Rejection> for AskError {
+    ghost from_gives = { λ rejection error. error ≡ Rejected rejection };
+
+    fn from(rejection: Rejection) -> AskError {
+        AskError::Rejected(rejection)
+    }
+}
+
 fn taken(desc: &[u8], layout: Layout, table: Table, j: usize) -> Asked
     requires sections_in_bounds { SectionsInBounds desc.now layout }
     requires j_bound { table.first + j < layout.constructors.count }
-    ensures { result ≡ Asked.Done (table.first + j) (weight (patterns_of desc.now layout table j)) }
+    ensures { result ≡ taken_from table.first (patterns_of desc.now layout table) j }
 {
     let constructor = table.first + j;
     let p = sections::pattern_of(desc, layout, constructor);
-    Asked::Done {
+    Asked {
         constructor,
         weight: patterns::weight_of(p),
     }
 }
 
-fn ask_in(desc: &[u8], layout: Layout, t: u32, context: u32, code: &[u8]) -> Asked
+fn ask_in(desc: &[u8], layout: Layout, t: u32, context: u32, code: &[u8]) -> Result<Asked, AskError>
     requires { WellFormed desc.now layout }
     ensures { result ≡ ask_in (description desc.now layout) t context code.now }
 {
     let table = tables::table_of(desc, layout, t);
     if table.count == 0 {
-        return Asked::NoTable(t);
+        return Err(AskError::NoTable(t));
     }
     let choice = choosing::choose_in(
         desc,
@@ -56,20 +69,17 @@ fn ask_in(desc: &[u8], layout: Layout, t: u32, context: u32, code: &[u8]) -> Ask
         context as u64,
     );
     match choice {
-        Choice::Short => Asked::Short,
-        Choice::NoMatch => Asked::NoMatch(t),
-        Choice::Taken(j) => taken(desc, layout, table, j),
-        Choice::Ambiguous => Asked::Ambiguous(t),
+        Ok(j) => Ok(taken(desc, layout, table, j)),
+        Err(NotChosen::Short) => Err(AskError::Short),
+        Err(NotChosen::NoMatch) => Err(AskError::NoMatch(t)),
+        Err(NotChosen::Ambiguous) => Err(AskError::Ambiguous(t)),
     }
 }
 
 // Any bytes as the description and as the code, any table number and context.
-pub fn ask(desc: &[u8], t: u32, context: u32, code: &[u8]) -> Asked
+pub fn ask(desc: &[u8], t: u32, context: u32, code: &[u8]) -> Result<Asked, AskError>
     ensures { result ≡ ask_of desc.now t context code.now }
 {
-    let acceptance = acceptance::accept(desc);
-    match acceptance {
-        Acceptance::Accepted(layout) => ask_in(desc, layout, t, context, code),
-        Acceptance::Rejected(rejection) => Asked::Rejected(rejection),
-    }
+    let layout = acceptance::accept(desc)?;
+    ask_in(desc, layout, t, context, code)
 }

@@ -79,11 +79,7 @@ fn is_below(desc: &[u8], layout: Layout, i: usize, t: usize) -> bool
     requires { SectionsInBounds desc.now layout }
     ensures { result ≡ (ltb i layout.constructors.count && ltb (table_at (description desc.now layout) i) t) }
 {
-    if i < layout.constructors.count {
-        let table = sections::table_at(desc, layout, i) as usize;
-        return table < t;
-    }
-    false
+    i < layout.constructors.count && (sections::table_at(desc, layout, i) as usize) < t
 }
 
 // The first constructor of every table, for those who ask many times: one pass over the constructors and the tables' numbers.
@@ -92,15 +88,12 @@ pub fn starts(desc: &[u8], layout: Layout) -> [usize; STARTS]
     ensures { result ≡ table_starts (description desc.now layout) }
 {
     let mut starts = [0usize; STARTS];
-    let mut t = 0;
     let mut i = 0;
-    while t < STARTS {
-        if is_below(desc, layout, i, t) {
+    for t in 0..STARTS {
+        while is_below(desc, layout, i, t) {
             i += 1;
-        } else {
-            starts[t] = i;
-            t += 1;
         }
+        starts[t] = i;
     }
     starts
 }

@@ -8,26 +8,26 @@ use native.Mathlib.Decide.{dec_lt}
 use borrow.Author.Tests.{ne_eqb}
 use lib.IntN.{ℤ, nat_abs}
 use lib.ListN.{length, get_or, length-append}
+use Rattle.std.specs.Prelude.{Option, Some, None}
 use Rattle.format.specs.Numbers.{most_rows}
 use Rattle.format.specs.Description.{Description, no_field, no_piece}
 use Rattle.format.specs.declared.Piece.{Piece}
 use Rattle.fields.specs.Look.{look_of}
 use Rattle.printing.specs.Numerals.{number_text}
-use Rattle.printing.specs.declared.Printed.{Printed}
-use Rattle.printing.specs.declared.Printed.TheVariants.{Wrote, Full}
 use Rattle.text.specs.Text.{base_of, computed_text, letters, piece_text, pieces_text, constructor_text, name_text}
 use Rattle.scratch_rows.specs.Places.{kind_at, number_at, last_at}
 use Rattle.text.specs.Places.{text_at, operand_text}
 use Rattle.text.specs.Append.{Appended, Appends}
 use Rattle.text.specs.Prints.{Printable}
 use Rattle.text.proofs.Writers.{appended-none, appended-more, full-more}
+use Rattle.setting.specs.declared.Prepared.{Prepared}
 
 -- at another row and another place
-pub moved : {b a : List ℕ} {rows : List ℤ} {used r r' : ℕ} {out out' : List ℕ} {at at' : ℕ} → Printable b a rows used r out at → r' < used
+pub moved : {b : List ℕ} {a : Prepared} {rows : List ℤ} {used r r' : ℕ} {out out' : List ℕ} {at at' : ℕ} → Printable b a rows used r out at → r' < used
     → at' ≤ length out' → Printable b a rows used r' out' at'
 moved p row place = record { fixed = p.fixed; sound = p.sound; row = row; place = place }
 
-module _ (d : Description) (rows : List ℤ) (r : ℕ) (room : r < most_rows) (at : ℕ) (before after : List ℕ) (p : Printed) where
+module _ (d : Description) (rows : List ℤ) (r : ℕ) (room : r < most_rows) (at : ℕ) (before after : List ℕ) (p : Option ℕ) where
   pub part-number : kind_at rows r ≡ 1
       → Appends at (number_text (base_of (look_of (get_or d.fields (number_at rows r) no_field).look)) (last_at rows r)) before after p
       → (depth : ℕ) → most_rows < r + depth → Appends at (text_at d rows depth r) before after p
@@ -55,7 +55,7 @@ module _ (d : Description) (rows : List ℤ) (r : ℕ) (room : r < most_rows) (a
   part-constructor k h zero g = absurd (omega arith)
   part-constructor k h (suc depth) g = rw k (h depth (omega arith))
 
-module _ (d : Description) (operand : ℕ → List ℕ) (q : Piece) (at : ℕ) (before after : List ℕ) (r : Printed) where
+module _ (d : Description) (operand : ℕ → List ℕ) (q : Piece) (at : ℕ) (before after : List ℕ) (r : Option ℕ) where
   pub piece-letters : q.kind ≡ 0 → Appends at (letters d q.offset q.n) before after r → Appends at (piece_text d operand q) before after r
   unfolding piece_text
   piece-letters k h = rw k h
@@ -92,10 +92,10 @@ module _ (d : Description) (rows : List ℤ) (r first count at : ℕ) where
   unfolding pieces_text
   no-piece out h = record { some = omega arith; same = refl; room = h; added = λ depth g. appended-none at out h }
 
-  module _ (out₀ out : List ℕ) (end q : ℕ) (turn : PiecesWritten out₀ out end q) (h : q < count) (out' : List ℕ) (p : Printed)
+  module _ (out₀ out : List ℕ) (end q : ℕ) (turn : PiecesWritten out₀ out end q) (h : q < count) (out' : List ℕ) (p : Option ℕ)
       (adds : (depth : ℕ) → most_rows < r + 1 + depth
       → Appends end (piece_text d (operand_text d rows r depth) (get_or d.pieces (first + q) no_piece)) out out' p) where
-    pub next-piece : (next : ℕ) → p ≡ Wrote next → length out' ≡ length out → PiecesWritten out₀ out' next (q + 1)
+    pub next-piece : (next : ℕ) → p ≡ Some next → length out' ≡ length out → PiecesWritten out₀ out' next (q + 1)
     next-piece next e l =
         let some : most_rows < r + 1 + suc most_rows = omega arith in
         let one : Appended end (piece_text d (operand_text d rows r (suc most_rows)) (get_or d.pieces (first + q) no_piece)) out out' next = rw e at (adds (suc most_rows) some).is in
@@ -108,8 +108,8 @@ module _ (d : Description) (rows : List ℤ) (r first count at : ℕ) where
               turn.same (turn.added depth g) (rw e at (adds depth g).is));
         }
 
-    pub full-piece : p ≡ Full → (depth : ℕ) → most_rows < r + 1 + depth → (after : List ℕ)
-        → Appends at (pieces_text d (operand_text d rows r depth) first count) out₀ after Full
+    pub full-piece : p ≡ None → (depth : ℕ) → most_rows < r + 1 + depth → (after : List ℕ)
+        → Appends at (pieces_text d (operand_text d rows r depth) first count) out₀ after None
     full-piece e depth g after =
         let w = piece_text d (operand_text d rows r depth) (get_or d.pieces (first + q) no_piece) in
         let more : length out₀ < at + length (pieces_text d (operand_text d rows r depth) first q ++ w) =
@@ -117,7 +117,7 @@ module _ (d : Description) (rows : List ℤ) (r first count at : ℕ) where
         record { is = omega (arith, more, pieces-grow d (operand_text d rows r depth) first (q + 1) count (omega arith), ap length (pieces-next d (operand_text d rows r depth) first q)) }
 
   pub all-pieces : (out₀ out : List ℕ) (end q : ℕ) → PiecesWritten out₀ out end q → count ≤ q → (depth : ℕ) → most_rows < r + 1 + depth
-      → Appends at (pieces_text d (operand_text d rows r depth) first count) out₀ out (Wrote end)
+      → Appends at (pieces_text d (operand_text d rows r depth) first count) out₀ out (Some end)
   all-pieces out₀ out end q turn h depth g =
       let e : q ≡ count = omega (arith, turn.some) in
       record { is = rw e at (turn.added depth g) }

@@ -1,38 +1,31 @@
 -- What a writer that was lent the part behind the bytes already written did to the whole text, and a text of several parts.
 use Prim.Native.Nat.{ℕ, ◌+◌, ◌-◌, ◌≤◌, ◌<◌}
 use mathlib.Core.List.{List, [], ◌++◌, append_assoc, append-nil}
-use mathlib.Core.Logic.{◌⊎◌, inl, inr}
-use mathlib.Core.Bool.{Bool, true, false, cond}
 use mathlib.Core.Path.{◌≡◌, refl, sym, ap, ◌∙◌}
 use native.Mathlib.Omega.{arith}
-use lib.Dec.{eqb}
 use lib.ListN.{length, take, drop, length-append, length-drop}
 use lib.Seq.{take_at, length-take-le}
-use Rattle.fields.specs.Look.{look_of}
-use Rattle.fields.specs.declared.Look.TheVariants.{Number, Name}
+use Rattle.std.specs.Prelude.{Option, Some, None}
 use Rattle.printing.specs.Writing.{Puts, over}
-use Rattle.printing.specs.declared.Printed.{Printed}
-use Rattle.printing.specs.declared.Printed.TheVariants.{Wrote, Full}
 use Rattle.printing.proofs.Writing.{Done, puts-wrote, puts-full, part-over, over-take}
-use Rattle.text.specs.Text.{base_of}
 use Rattle.text.specs.Append.{Appended, Appends}
 
-module _ (at : ℕ) (w before mid : List ℕ) (r : Printed) (room : at ≤ length before) (part : List ℕ)
+module _ (at : ℕ) (w before mid : List ℕ) (r : Option ℕ) (room : at ≤ length before) (part : List ℕ)
     (lent : part ≡ take (length before - at) (drop at before)) (puts : Puts w part mid r) where
   part_length : length part ≡ length before - at
   part_length = rw lent (length-take-le (length before - at) (drop at before) (omega (arith, length-drop at before)) ∙ refl)
 
-  pub appends-full : (after : List ℕ) → r ≡ Full → Appends at w before after Full
+  pub appends-full : (after : List ℕ) → r ≡ None → Appends at w before after None
   appends-full after e = record { is = omega (arith, (puts-full puts e).0, part_length) }
 
-  module _ (n : ℕ) (e : r ≡ Wrote n) where
+  module _ (n : ℕ) (e : r ≡ Some n) where
     wrote : Done w part mid n
     wrote = puts-wrote puts e
 
     pub end-within : at + n ≤ length before
     end-within = omega (arith, wrote.fits, wrote.count, part_length)
 
-    pub appends-wrote : Appends at w before (take at before ++ (mid ++ drop (length before - at) (drop at before))) (Wrote (at + n))
+    pub appends-wrote : Appends at w before (take at before ++ (mid ++ drop (length before - at) (drop at before))) (Some (at + n))
     unfolding over
     appends-wrote =
         let front = take at before ++ w in
@@ -64,19 +57,5 @@ appended-more at v w before mid after middle end l f g =
 
 -- a text that has no room for a part has none for more
 pub full-more : (at : ℕ) (v w before mid after : List ℕ) (middle : ℕ) → length mid ≡ length before → Appended at v before mid middle
-    → Appends middle w mid after Full → length before < at + length (v ++ w)
+    → Appends middle w mid after None → length before < at + length (v ++ w)
 full-more at v w before mid after middle l f g = omega (arith, f.ends, g.is, length-append v w)
-
--- a look's base is 10 or 16
-pub base-known : (look : ℕ) → (base_of (look_of look) ≡ 10) ⊎ (base_of (look_of look) ≡ 16)
-unfolding look_of
-base-known look = go (eqb look 0) (eqb look 1) (eqb look 2) (eqb look 3) (eqb look 4)
-  where
-    go : (a b c d e : Bool) → (base_of (cond a (Number false 10) (cond b (Number true 10) (cond c (Number false 16) (cond d (Number true 16) (cond e Name (Number false 10)))))) ≡ 10)
-        ⊎ (base_of (cond a (Number false 10) (cond b (Number true 10) (cond c (Number false 16) (cond d (Number true 16) (cond e Name (Number false 10)))))) ≡ 16)
-    go true b c d e = inl refl
-    go false true c d e = inl refl
-    go false false true d e = inr refl
-    go false false false true e = inr refl
-    go false false false false true = inl refl
-    go false false false false false = inl refl

@@ -1,22 +1,22 @@
--- What the functions that print a part of an instruction ask and say. b and a are the description's bytes and the fixed numbers.
-use Rattle.std.specs.Prelude.{ℕ, suc, ◌+◌, ◌≤◌, ◌<◌, List, ◌≡◌, ℤ, length, get_or}
+-- What the functions that print a part of an instruction ask and say. b and a are the description's bytes and what is fixed.
+use Rattle.std.specs.Prelude.{ℕ, suc, ◌+◌, ◌≤◌, ◌<◌, List, ◌≡◌, ℤ, length, get_or, Option}
 use Rattle.format.specs.Numbers.{most_rows}
 use Rattle.format.specs.Description.{Description, no_field, no_constructor, no_piece}
 use Rattle.fields.specs.Look.{look_of}
 use Rattle.printing.specs.Numerals.{number_text}
-use Rattle.printing.specs.declared.Printed.{Printed}
 use Rattle.setting.specs.Fixed.{Fixed, setting_in}
+use Rattle.setting.specs.declared.Prepared.{Prepared}
 use Rattle.text.specs.Text.{base_of, letters, piece_text, constructor_text, name_text}
 use Rattle.scratch_rows.specs.Places.{kind_at, number_at}
 use Rattle.text.specs.Places.{text_at, operand_text, SoundRows, Showable}
 use Rattle.text.specs.Append.{Appends}
 
 -- the description that the numbers are fixed for
-abbrev pub described : (b a : List ℕ) → Description
+abbrev pub described : (b : List ℕ) (a : Prepared) → Description
 described b a = (setting_in b a).description
 
 -- sound rows of it, a row among those used, and a place in the text
-pub record Printable (b a : List ℕ) (rows : List ℤ) (used r : ℕ) (out : List ℕ) (at : ℕ) : Type 0 where
+pub record Printable (b : List ℕ) (a : Prepared) (rows : List ℤ) (used r : ℕ) (out : List ℕ) (at : ℕ) : Type 0 where
   pub fixed : Fixed b a
   pub sound : SoundRows (described b a) rows used
   pub row : r < used
@@ -28,17 +28,17 @@ pub record ValueRow (rows : List ℤ) (r kind : ℕ) : Type 0 where
   pub other : kind ≡ 0 → ⊥
 
 -- row r is a constructor's, whose piece can be shown
-pub record PieceRow (b a : List ℕ) (rows : List ℤ) (r i : ℕ) : Type 0 where
+pub record PieceRow (b : List ℕ) (a : Prepared) (rows : List ℤ) (r i : ℕ) : Type 0 where
   pub kind : kind_at rows r ≡ 0
   pub inside : i < length (described b a).pieces
   pub showable : Showable (described b a) (get_or (described b a).constructors (number_at rows r) no_constructor) (get_or (described b a).pieces i no_piece)
 
 -- the text of the whole instruction
-abbrev pub whole_text : (b a : List ℕ) → List ℤ → List ℕ
+abbrev pub whole_text : (b : List ℕ) (a : Prepared) → List ℤ → List ℕ
 whole_text b a rows = text_at (described b a) rows (suc most_rows) 0
 
 -- what is printed at a place, by the answer p
-module _ (b a : List ℕ) (at : ℕ) (old new : List ℕ) (p : Printed) where
+module _ (b : List ℕ) (a : Prepared) (at : ℕ) (old new : List ℕ) (p : Option ℕ) where
   abbrev pub LettersPrinted : ℕ → ℕ → Type 0
   LettersPrinted offset n = Appends at (letters (described b a) offset n) old new p
 

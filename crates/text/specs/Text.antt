@@ -5,12 +5,12 @@ use Rattle.format.specs.declared.Piece.{Piece}
 use Rattle.fields.specs.Look.{look_of}
 use Rattle.fields.specs.declared.Look.{Look}
 use Rattle.fields.specs.declared.Look.TheVariants as look
-use Rattle.printing.specs.Numerals.{number_text}
+use Rattle.printing.specs.Numerals.{base_number, number_text}
 use Rattle.decoding_spec.specs.Tree.{Node, Nodes, built, numbered, named, computed, none, more}
 
 -- the base in which a look shows a number
 abbrev pub base_of : Look → ℕ
-base_of (look.Number signed base) = base
+base_of (look.Number signed base) = base_number base
 base_of look.Name = 10
 
 -- a computed operand is "shown as signed hex"

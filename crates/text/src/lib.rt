@@ -1,10 +1,10 @@
 // The text of a decoded instruction, printed from the scratch rows that the walk has left.
 #![tactic(auto)]
 
-ghost use Rattle.std.specs.Prelude.{◌⊎◌, ◌≡◌, ◌+◌, ◌<◌, ◌≤◌, length};
+ghost use Rattle.std.specs.Prelude.{◌≡◌, ◌+◌, ◌<◌, ◌≤◌, length};
 ghost use Rattle.format.specs.Numbers.{most_rows};
 ghost use Rattle.fields.specs.Look.{look_of};
-ghost use Rattle.printing.specs.Numerals.{number_text};
+ghost use Rattle.printing.specs.Numerals.{base_number, number_text};
 ghost use Rattle.setting.specs.Fixed.{Fixed};
 ghost use Rattle.walk_steps.specs.Scratch.{scratch_length};
 ghost use Rattle.text.specs.Text.{base_of};
@@ -15,13 +15,13 @@ ghost use Rattle.text.specs.Lines.{line_of, lent_after};
 ghost use Rattle.text.specs.Prints.{described, whole_text, Printable, ValueRow, PieceRow, LettersPrinted, NamePrinted, FieldPrinted, PartPrinted, PiecePrinted, ConstructorPrinted};
 
 use fields::Look;
-use printing::Printed;
-use setting::FIXED;
+use printing::Base;
+use setting::Prepared;
 
 const COLUMNS: usize = scratch_rows::COLUMNS;
 
 // "shown as signed hex"
-const COMPUTED_BASE: u8 = 16;
+const COMPUTED_BASE: Base = Base::Hexadecimal;
 
 // The row behind so many parts, the first of which starts at this row.
 fn row_behind(rows: &[i64], first: usize, parts: usize) -> usize
@@ -29,64 +29,49 @@ fn row_behind(rows: &[i64], first: usize, parts: usize) -> usize
     ensures { result ≡ skip rows.now first parts }
 {
     let mut row = first;
-    let mut left = parts;
-    while 0 < left {
+    for _ in 0..parts {
         row += scratch_rows::column(rows, COLUMNS * row + 4);
-        left -= 1;
     }
     row
 }
 
 // The base in which a look shows a number.
-fn base_of(look: u8) -> u8
-    ensures { (result ≡ base_of (look_of look)) × ((result ≡ 10) ⊎ (result ≡ 16)) }
+fn base_of(look: u8) -> Base
+    ensures { base_number result ≡ base_of (look_of look) }
 {
-    let found = fields::look_of(look);
-    match found {
-        Look::Number { signed: _, base } => base,
-        Look::Name => 10,
+    match Look::from(look) {
+        Look::Number { base, .. } => base,
+        Look::Name => Base::Decimal,
     }
 }
 
 // Bytes of the text section. The part behind the bytes already written is lent on.
 fn put_letters(
     desc: &[u8],
-    fixed: &[usize; FIXED],
+    fixed: &Prepared,
     offset: usize,
     n: usize,
     out: &mut [u8],
     at: usize,
-) -> Printed
+) -> Option<usize>
     requires fixed { Fixed desc.now fixed.now × (offset + n ≤ length (described desc.now fixed.now).text) }
     requires at_in_bounds { at ≤ length out.old }
     ensures { LettersPrinted desc.now fixed.now at out.old out.new result offset n }
 {
     let letters = setting::letters(desc, fixed, offset, n);
-    let put = printing::put_bytes(letters, &mut out[at..]);
-    match put {
-        Printed::Full => Printed::Full,
-        Printed::Wrote(count) => {
-            let end = at + count;
-            Printed::Wrote(end)
-        }
-    }
+    let count = printing::put_bytes(letters, &mut out[at..])?;
+    Some(at + count)
 }
 
-fn put_value(value: i64, base: u8, out: &mut [u8], at: usize) -> Printed
-    requires { ((base ≡ 10) ⊎ (base ≡ 16)) × (at ≤ length out.old) }
-    ensures { Appends at (number_text base value) out.old out.new result }
+fn put_value(value: i64, base: Base, out: &mut [u8], at: usize) -> Option<usize>
+    requires { at ≤ length out.old }
+    ensures { Appends at (number_text (base_number base) value) out.old out.new result }
 {
-    let put = printing::put_number(value, base, &mut out[at..]);
-    match put {
-        Printed::Full => Printed::Full,
-        Printed::Wrote(count) => {
-            let end = at + count;
-            Printed::Wrote(end)
-        }
-    }
+    let count = printing::put_number(value, base, &mut out[at..])?;
+    Some(at + count)
 }
 
-fn put_name(desc: &[u8], fixed: &[usize; FIXED], n: usize, out: &mut [u8], at: usize) -> Printed
+fn put_name(desc: &[u8], fixed: &Prepared, n: usize, out: &mut [u8], at: usize) -> Option<usize>
     requires fixed { Fixed desc.now fixed.now × (n < length (described desc.now fixed.now).names) }
     requires at_in_bounds { at ≤ length out.old }
     ensures { NamePrinted desc.now fixed.now at out.old out.new result n }
@@ -99,12 +84,12 @@ fn put_name(desc: &[u8], fixed: &[usize; FIXED], n: usize, out: &mut [u8], at: u
 // A field's number, in its look's base.
 fn put_field(
     desc: &[u8],
-    fixed: &[usize; FIXED],
+    fixed: &Prepared,
     index: usize,
     value: i64,
     out: &mut [u8],
     at: usize,
-) -> Printed
+) -> Option<usize>
     requires fixed { Fixed desc.now fixed.now × (index < length (described desc.now fixed.now).fields) }
     requires at_in_bounds { at ≤ length out.old }
     ensures { FieldPrinted desc.now fixed.now at out.old out.new result index value }
@@ -117,14 +102,14 @@ fn put_field(
 // A field, a computed operand or a name, by its row.
 fn print_value(
     desc: &[u8],
-    fixed: &[usize; FIXED],
+    fixed: &Prepared,
     rows: &[i64],
     used: usize,
     r: usize,
     kind: usize,
     out: &mut [u8],
     at: usize,
-) -> Printed
+) -> Option<usize>
     requires printable { Printable desc.now fixed.now rows.now used r out.old at }
     requires value_row { ValueRow rows.now r kind }
     ensures { PartPrinted desc.now fixed.now at out.old out.new result rows.now r }
@@ -144,14 +129,14 @@ fn print_value(
 #[cycle(print)]
 fn print_piece(
     desc: &[u8],
-    fixed: &[usize; FIXED],
+    fixed: &Prepared,
     rows: &[i64],
     used: usize,
     r: usize,
     i: usize,
     out: &mut [u8],
     at: usize,
-) -> Printed
+) -> Option<usize>
     requires printable { Printable desc.now fixed.now rows.now used r out.old at }
     requires piece_row { PieceRow desc.now fixed.now rows.now r i }
     ensures { PiecePrinted desc.now fixed.now at out.old out.new result rows.now r i }
@@ -169,13 +154,13 @@ fn print_piece(
 #[cycle(print)]
 fn print_constructor(
     desc: &[u8],
-    fixed: &[usize; FIXED],
+    fixed: &Prepared,
     rows: &[i64],
     used: usize,
     r: usize,
     out: &mut [u8],
     at: usize,
-) -> Printed
+) -> Option<usize>
     requires printable { Printable desc.now fixed.now rows.now used r out.old at }
     requires r_value { kind_at rows.now r ≡ 0 }
     ensures { ConstructorPrinted desc.now fixed.now at out.old out.new result rows.now r }
@@ -185,33 +170,23 @@ fn print_constructor(
     let first = constructor.pieces.first as usize;
     let count = constructor.pieces.count as usize;
     let mut end = at;
-    let mut q = 0;
-    while q < count {
-        let put = print_piece(desc, fixed, rows, used, r, first + q, out, end);
-        match put {
-            Printed::Full => {
-                return Printed::Full;
-            }
-            Printed::Wrote(next) => {
-                end = next;
-                q += 1;
-            }
-        }
+    for q in 0..count {
+        end = print_piece(desc, fixed, rows, used, r, first + q, out, end)?;
     }
-    Printed::Wrote(end)
+    Some(end)
 }
 
 // The part at row r: a constructor, or a value.
 #[cycle(print)]
 fn print_part(
     desc: &[u8],
-    fixed: &[usize; FIXED],
+    fixed: &Prepared,
     rows: &[i64],
     used: usize,
     r: usize,
     out: &mut [u8],
     at: usize,
-) -> Printed
+) -> Option<usize>
     requires { Printable desc.now fixed.now rows.now used r out.old at }
     ensures { PartPrinted desc.now fixed.now at out.old out.new result rows.now r }
 {
@@ -222,37 +197,29 @@ fn print_part(
     print_value(desc, fixed, rows, used, r, kind, out, at)
 }
 
-// How many bytes a whole text has; or that it is too long, or longer than the lent part.
-#[derive(Clone, Copy)]
-pub enum Line {
-    Written(usize),
-    TextTooLong,
+// Why no text is put into the lent part: a text may not be so long, or the part is shorter.
+#[derive(Clone, Copy, PartialEq, Eq)]
+pub enum NoText {
+    TooLong,
     NoRoom,
 }
 
-// The text of the whole instruction, made in a text of its own and copied when it is known to fit.
+// The text of the whole instruction, made in a text of its own and copied when it is known to fit; how many bytes it has.
 pub fn print_text(
     desc: &[u8],
-    fixed: &[usize; FIXED],
+    fixed: &Prepared,
     rows: &[i64],
     used: usize,
     out: &mut [u8],
-) -> Line
+) -> Result<usize, NoText>
     requires fixed { Fixed desc.now fixed.now }
     requires sound_rows { SoundRows (described desc.now fixed.now) rows.now used × (0 < used) }
     ensures value { result ≡ line_of (whole_text desc.now fixed.now rows.now) (length out.old) }
     ensures out_after { out.new ≡ lent_after (whole_text desc.now fixed.now rows.now) out.old }
 {
     let mut text = [0u8; format::TEXT];
-    let put = print_part(desc, fixed, rows, used, 0, &mut text, 0);
-    match put {
-        Printed::Full => Line::TextTooLong,
-        Printed::Wrote(end) => {
-            let copied = printing::put_bytes(&text[..end], out);
-            match copied {
-                Printed::Full => Line::NoRoom,
-                Printed::Wrote(count) => Line::Written(count),
-            }
-        }
-    }
+    let Some(end) = print_part(desc, fixed, rows, used, 0, &mut text, 0) else {
+        return Err(NoText::TooLong);
+    };
+    printing::put_bytes(&text[..end], out).ok_or(NoText::NoRoom)
 }

@@ -14,8 +14,8 @@ const UNREAD: u64 = 18446744073709551615;
 fn can_read(field: Field, code: &[u8]) -> bool
     ensures { result ≡ can_read field code.now }
 {
-    let width = field.width as usize;
-    let high = field.high as usize;
+    let width = usize::from(field.width);
+    let high = usize::from(field.high);
     (field.width <= format::WIDEST)
         & (field.low <= field.high)
         & (high < 8 * width)
@@ -26,7 +26,7 @@ fn read(field: Field, context: u32, code: &[u8]) -> u64
     ensures { result ≡ field_value field context code.now }
 {
     if can_read(field, code) {
-        return fields::value(field, code, context as u64);
+        return fields::value(field, code, u64::from(context));
     }
     UNREAD
 }
@@ -35,17 +35,11 @@ fn read(field: Field, context: u32, code: &[u8]) -> u64
 pub extern "C" fn timed_field_read(bytes: &[u8], context: u32, code: &[u8]) -> u64
     ensures { result ≡ record_value bytes.now context code.now }
 {
-    if (format::FIELD_BYTES as usize) <= bytes.len() {
+    if usize::from(format::FIELD_BYTES) <= bytes.len() {
         let start = Cursor { at: 0 };
-        return read(start.field(bytes).field, context, code);
+        return read(start.read::<Field>(bytes).value, context, code);
     }
     UNREAD
-}
-
-fn wide(x: u8) -> u64
-    ensures { (result ≡ x) × (result < 256) }
-{
-    x as u64
 }
 
 // Byte j of the field's token, byte 0 the lowest.
@@ -58,7 +52,7 @@ fn byte(field: Field, code: &[u8], j: u8) -> u64
     } else {
         field.width - 1 - j
     };
-    wide(code[k as usize])
+    u64::from(code[usize::from(k)])
 }
 
 // The field's token as a number, from its highest byte down.
@@ -91,7 +85,7 @@ fn read_by_bytes(field: Field, context: u32, code: &[u8]) -> u64
     ensures { result ≡ field_value field context code.now }
 {
     if can_read(field, code) {
-        return value_by_bytes(field, code, context as u64);
+        return value_by_bytes(field, code, u64::from(context));
     }
     UNREAD
 }
@@ -100,9 +94,9 @@ fn read_by_bytes(field: Field, context: u32, code: &[u8]) -> u64
 pub extern "C" fn timed_field_read_by_bytes(bytes: &[u8], context: u32, code: &[u8]) -> u64
     ensures { result ≡ record_value bytes.now context code.now }
 {
-    if (format::FIELD_BYTES as usize) <= bytes.len() {
+    if usize::from(format::FIELD_BYTES) <= bytes.len() {
         let start = Cursor { at: 0 };
-        return read_by_bytes(start.field(bytes).field, context, code);
+        return read_by_bytes(start.read::<Field>(bytes).value, context, code);
     }
     UNREAD
 }

@@ -10,6 +10,7 @@ use borrow.Author.Tests.{leb-true, leb-false, le-leb, lt-leb}
 use lib.Dec.{leb}
 use lib.ListN.{length, get_or, drop, get_or-append}
 use lib.Seq.{ext_get_or, get_or-append-add, get_or-drop}
+use Rattle.std.specs.Prelude.{Option, Some, None, Ok, Err}
 use Rattle.format.specs.Check.{WellFormed}
 use Rattle.format.specs.Description.{Description, description}
 use Rattle.format.specs.declared.Layout.{Layout}
@@ -18,7 +19,6 @@ use Rattle.tables.specs.declared.Table.{Table}
 use Rattle.choosing.proofs.Settling.{patterns-are}
 use Rattle.choosing_spec.specs.Clashing.{clash_of}
 use Rattle.choosing_spec.specs.Table.{pattern_from}
-use Rattle.choosing_spec.specs.declared.Clash.TheVariants.{Clear, Pair}
 use Rattle.clash_check.proofs.Facts.{pattern-sound}
 use Rattle.printing.specs.Writing.{over}
 use Rattle.printing.proofs.Writing.{over-length}
@@ -27,13 +27,11 @@ use Rattle.tree_spec.specs.Verdicts.{bytes_of}
 use Rattle.tree_building_spec.specs.Tree.{Tree, tree_of, size_of, tree_bytes}
 use Rattle.tree_building_theorems.proofs.Laid.{size-some, stands-bytes, laid-length}
 use Rattle.tree_nodes.specs.Ready.{Ready}
-use Rattle.tree_building.specs.Building.{grown, refused, fits, outcome_for, Builds}
+use Rattle.tree_building.specs.Building.{fits, outcome_for, Builds}
 use Rattle.tree_counting.specs.Counting.{counted_of}
 use Rattle.tree_building.specs.Room.{most_in}
 use Rattle.tree_building.specs.Writing.{PutsWord, PutsTree}
-use Rattle.tree_building.specs.declared.Built.TheVariants.{Done, Clashes, TooLarge}
-use Rattle.tree_counting.specs.declared.Counted.{Counted}
-use Rattle.tree_counting.specs.declared.Counted.TheVariants.{Nodes, TooMany}
+use Rattle.tree_building.specs.declared.BuildError.TheVariants.{Clashes, TooLarge}
 
 -- a tree that was counted within the bound fits, and has so many nodes
 pub record Fitting (t : Tree) (room k : ℕ) : Type 0 where
@@ -41,27 +39,27 @@ pub record Fitting (t : Tree) (room k : ℕ) : Type 0 where
   pub few : size_of t ≤ most_nodes
   pub room_for : 2 + 4 * size_of t ≤ room
 
-pub counted-fits : (t : Tree) (room most k : ℕ) (r : Counted) → most ≡ most_in room → r ≡ counted_of most (size_of t) → r ≡ Nodes k → Fitting t room k
+pub counted-fits : (t : Tree) (room most k : ℕ) (r : Option ℕ) → most ≡ most_in room → r ≡ counted_of most (size_of t) → r ≡ Some k → Fitting t room k
 counted-fits t room most k r m e f = go (leb (size_of t) (most_in room)) refl (rw m at (sym e ∙ f))
   where
-    go : (b : Bool) → leb (size_of t) (most_in room) ≡ b → cond b (Nodes (size_of t)) TooMany ≡ Nodes k → Fitting t room k
+    go : (b : Bool) → leb (size_of t) (most_in room) ≡ b → cond b (Some (size_of t)) None ≡ Some k → Fitting t room k
     go true q g =
         let size : k ≡ size_of t = cc in
         let h = leb-true (size_of t) (most_in room) q in
         record { size = size; few = omega arith; room_for = omega (arith, size-some t) }
-    go false q g = absurd (let z : ◌≡◌ {A = ℕ} 0 1 = cc in omega arith)
+    go false q g = cc
 
 fitting : (t : Tree) (room : ℕ) → size_of t ≤ most_nodes → 2 + 4 * size_of t ≤ room → fits t room ≡ true
 unfolding fits
 fitting t room h l = rw (le-leb (size_of t) most_nodes h, le-leb (2 + 4 * size_of t) room l)
 
-counted-large : (t : Tree) (room most : ℕ) (r : Counted) → most ≡ most_in room → r ≡ counted_of most (size_of t) → r ≡ TooMany → fits t room ≡ false
+counted-large : (t : Tree) (room most : ℕ) (r : Option ℕ) → most ≡ most_in room → r ≡ counted_of most (size_of t) → ((k : ℕ) → r ≡ Some k → ⊥) → fits t room ≡ false
 unfolding fits
-counted-large t room most r m e f = go (leb (size_of t) (most_in room)) refl (rw m at (sym e ∙ f))
+counted-large t room most r m e f = go (leb (size_of t) (most_in room)) refl (λ k q. f k (e ∙ rw m q))
   where
-    go : (b : Bool) → leb (size_of t) (most_in room) ≡ b → cond b (Nodes (size_of t)) TooMany ≡ TooMany
+    go : (b : Bool) → leb (size_of t) (most_in room) ≡ b → ((k : ℕ) → cond b (Some (size_of t)) None ≡ Some k → ⊥)
         → (leb (size_of t) most_nodes && leb (2 + 4 * size_of t) room) ≡ false
-    go true q g = absurd (let z : ◌≡◌ {A = ℕ} 0 1 = cc in omega arith)
+    go true q g = absurd (g (size_of t) refl)
     go false q g = pick (dec_lt most_nodes (size_of t))
       where
         more : most_in room < size_of t
@@ -123,20 +121,20 @@ module _ (t : Tree) (old mid new : List ℕ) (few : size_of t ≤ most_nodes) (r
 
 -- what is built of a table without a clash
 pub builds-tree : (t : Tree) (old mid new : List ℕ) (k : ℕ) → Fitting t (length old) k → PutsWord 0 k old mid → PutsTree t mid new
-    → ((k : ℕ) → get_or new k 0 < 256) → Builds (grown t) old (Done (2 + 4 * k)) new
+    → ((k : ℕ) → get_or new k 0 < 256) → Builds (Ok t) old (Ok (2 + 4 * k)) new
 builds-tree t old mid new k f head body small =
     let e = fitting t (length old) f.few f.room_for in
     rw f.size
     (record { answer = rw e; bytes = rw e (written_over t old mid new f.few f.room_for (rw f.size at head) body small) })
 
-pub builds-large : (t : Tree) (old : List ℕ) (most : ℕ) (r : Counted) → most ≡ most_in (length old) → r ≡ counted_of most (size_of t) → r ≡ TooMany
-    → Builds (grown t) old TooLarge old
+pub builds-large : (t : Tree) (old : List ℕ) (most : ℕ) (r : Option ℕ) → most ≡ most_in (length old) → r ≡ counted_of most (size_of t)
+    → ((k : ℕ) → r ≡ Some k → ⊥) → Builds (Ok t) old (Err TooLarge) old
 builds-large t old most r m e g = let f = counted-large t (length old) most r m e g in record { answer = rw f; bytes = rw f }
 
 -- a table of a well-formed description that has no clash
 pub ready : (b : List ℕ) (l : Layout) → ((i : ℕ) → get_or b i 0 < 256) → WellFormed b l → (table : Table)
     → table.first + table.count ≤ l.constructors.count
-    → clash_of (pattern_from (description b l) table.first) table.count ≡ Clear → Ready b l.constructors table
+    → clash_of (pattern_from (description b l) table.first) table.count ≡ None → Ready b l.constructors table
 ready b l bytes f table within clear =
     record {
       room = f.room.constructors;
@@ -148,10 +146,10 @@ ready b l bytes f table within clear =
 
 -- .. and its outcome
 module _ (d : Description) (first n : ℕ) where
-  pub clear-outcome : clash_of (pattern_from d first) n ≡ Clear → outcome_for d first n ≡ grown (tree_of first (pattern_from d first) n)
+  pub clear-outcome : clash_of (pattern_from d first) n ≡ None → outcome_for d first n ≡ Ok (tree_of first (pattern_from d first) n)
   unfolding outcome_for
   clear-outcome e = rw e
 
-  pub pair-outcome : (i j : ℕ) → clash_of (pattern_from d first) n ≡ Pair i j → outcome_for d first n ≡ refused (Clashes (first + i) (first + j))
+  pub pair-outcome : (i j : ℕ) → clash_of (pattern_from d first) n ≡ Some (i, j) → outcome_for d first n ≡ Err (Clashes (first + i) (first + j))
   unfolding outcome_for
   pair-outcome i j e = rw e

@@ -6,10 +6,10 @@ use mathlib.Core.Logic.{◌⊎◌, inl, inr}
 use mathlib.Core.Path.{◌≡◌, refl, sym, ap, subst, ◌∙◌}
 use native.Mathlib.Numerals.{add-one}
 use native.Mathlib.Omega.{arith}
+use Rattle.std.specs.Prelude.{Option, Some, None}
 use Rattle.format.specs.declared.Pattern.{Pattern}
 use Rattle.choosing_spec.specs.Clashing.{clash_of}
 use Rattle.choosing_spec.specs.ValidPattern.{ValidPattern}
-use Rattle.choosing_spec.specs.declared.Clash.TheVariants.{Clear}
 use Rattle.tree_spec.specs.Nodes.{kind_at, bit_at, place_at}
 use Rattle.tree_spec.specs.Form.{start, side}
 use Rattle.tree_building_spec.specs.Rule.{kind_of, bit_of, node_of}
@@ -25,8 +25,6 @@ use Rattle.tree_counting.specs.Seen.{Seen}
 use Rattle.tree_counting.specs.Seen as seen
 use Rattle.tree_counting.specs.Turning.{Turns}
 use Rattle.tree_building.specs.Writing.{Kept, PutsNode, PutsPlace, PutsTree}
-use Rattle.tree_counting.specs.declared.Turn.{Turn}
-use Rattle.tree_counting.specs.declared.Turn.TheVariants.{Whole, Side}
 use Rattle.tree_counting.proofs.Counting.{test_at, seen_more}
 use Rattle.tree_counting.proofs.Paths.{seen-valid, ascends-to, test-tree, test-size, zero-whole, zero-turned, one-turns}
 use Rattle.tree_building.proofs.Putting.{kept-both, kept-wider}
@@ -108,20 +106,20 @@ module _ (first : ℕ) (at : ℕ → Pattern) (n : ℕ) (sound : (j : ℕ) → j
       (growing-kept g (record { node = λ j k c v h l. r.node j k c v h (omega arith) }))
 
   -- behind a finished path the whole tree stands, or the test that waited goes on to its one side
-  abbrev Reached : List ℕ → ℕ → ℕ → ℕ → Turn → Type 0
-  Reached b o i e Whole = Stands b 0 (tree_of first at n)
-  Reached b o i e (Side q) = Opens first at n b o i e q
+  abbrev Reached : List ℕ → ℕ → ℕ → ℕ → Option Pattern → Type 0
+  Reached b o i e None = Stands b 0 (tree_of first at n)
+  Reached b o i e (Some q) = Opens first at n b o i e q
 
   abbrev at-end : Pattern → ℕ → ℕ
   at-end p i = i + size_of (tree_at first at n p)
 
-  reach : {b : List ℕ} {p : Pattern} {i o : ℕ} → Growing first at n b p i o → Stands b i (tree_at first at n p) → (r : Turn) → Turns p r
+  reach : {b : List ℕ} {p : Pattern} {i o : ℕ} → Growing first at n b p i o → Stands b i (tree_at first at n p) → (r : Option Pattern) → Turns p r
       → Reached b o i (at-end p i) r
-  reach begin s Whole f = rw (tree-start first at n) at s
-  reach begin s (Side q) (z, last, turned) = absurd (false≢true (sym (start-masks z) ∙ last.tested))
-  reach (zeroth {q} k low x g) s Whole f =
+  reach begin s None f = rw (tree-start first at n) at s
+  reach begin s (Some q) (z, last, turned) = absurd (false≢true (sym (start-masks z) ∙ last.tested))
+  reach (zeroth {q} k low x g) s None f =
       absurd (zero-whole at n q k low (seen-valid first at n sound (seen_of g)) (ascends-to first at n sound (seen_of g) k low) f)
-  reach {b} (zeroth {q} {m} {o} k low x g) s (Side r) (z, last, turned) =
+  reach {b} (zeroth {q} {m} {o} k low x g) s (Some r) (z, last, turned) =
       let is = zero-turned at n q k low (seen-valid first at n sound (seen_of g)) (ascends-to first at n sound (seen_of g) k low) z r last turned in
       record {
         below = omega arith;
@@ -138,12 +136,12 @@ module _ (first : ℕ) (at : ℕ → Pattern) (n : ℕ) (sound : (j : ℕ) → j
       let whole : Stands b m (tree_at first at n q) = rw (test-tree first at n sound q k low valid) (fork x y s) in
       rw e (farther r (reach g whole r (one-turns at n q k low valid (ascends-to first at n sound (seen_of g) k low) r f)))
     where
-      farther : (r : Turn) → Reached b o m (at-end q m) r → Reached b o (suc m + size_of (tree_at first at n (longer q k 0))) (at-end q m) r
-      farther Whole s = s
-      farther (Side t) s = record { below = omega (arith, s.below); next = s.next }
+      farther : (r : Option Pattern) → Reached b o m (at-end q m) r → Reached b o (suc m + size_of (tree_at first at n (longer q k 0))) (at-end q m) r
+      farther None s = s
+      farther (Some t) s = record { below = omega (arith, s.below); next = s.next }
 
   -- the turns of the loop that writes
-  module _ (clear : clash_of at n ≡ Clear) (count : ℕ) (before b : List ℕ) (p : Pattern) (o i : ℕ)
+  module _ (clear : clash_of at n ≡ None) (count : ℕ) (before b : List ℕ) (p : Pattern) (o i : ℕ)
       (so_far : Progress first at n count before b p o i) (here : i < count) where
     -- a node of the tree keeps what is not the tree's
     node_kept : (after : List ℕ) (k c v : ℕ) → PutsNode i k c v b after → Kept 2 (2 + 4 * count) before after
@@ -166,7 +164,7 @@ module _ (first : ℕ) (at : ℕ → Pattern) (n : ℕ) (sound : (j : ℕ) → j
         }
 
     -- a leaf, and what stands behind it
-    module _ (v : ℕ) (e : node_of first at n p ≡ Leaf v) (mid : List ℕ) (puts : PutsNode i 0 0 v b mid) (r : Turn) (turns : Turns p r) where
+    module _ (v : ℕ) (e : node_of first at n p ≡ Leaf v) (mid : List ℕ) (puts : PutsNode i 0 0 v b mid) (r : Option Pattern) (turns : Turns p r) where
       one-node : at-end p i ≡ i + 1
       unfolding size_of
       one-node = rw (leaf-grows first at n p v e)
@@ -176,17 +174,17 @@ module _ (first : ℕ) (at : ℕ → Pattern) (n : ℕ) (sound : (j : ℕ) → j
           rw one-node at
           (reach (growing-kept so_far.growing (node-before b mid i 0 0 v puts)) (rw (leaf-grows first at n p v e) (tip puts.node)) r turns)
 
-      pub grow-whole : r ≡ Whole → count ≡ size_of (tree_of first at n) → PutsTree (tree_of first at n) before mid
+      pub grow-whole : r ≡ None → count ≡ size_of (tree_of first at n) → PutsTree (tree_of first at n) before mid
       grow-whole is size =
           record { stands = subst (Reached mid o i (i + 1)) is reached; kept = rw size at (node_kept mid 0 0 v puts) }
 
-      opened : (q : Pattern) → r ≡ Side q → Opens first at n mid o i (i + 1) q
+      opened : (q : Pattern) → r ≡ Some q → Opens first at n mid o i (i + 1) q
       opened q is = subst (Reached mid o i (i + 1)) is reached
 
-      pub waits-inside : (q : Pattern) → r ≡ Side q → o < i
+      pub waits-inside : (q : Pattern) → r ≡ Some q → o < i
       waits-inside q is = (opened q is).below
 
-      pub grow-side : (q : Pattern) → r ≡ Side q → (after : List ℕ) → PutsPlace o (i + 1) mid after
+      pub grow-side : (q : Pattern) → r ≡ Some q → (after : List ℕ) → PutsPlace o (i + 1) mid after
           → Progress first at n count before after q (place_at mid o) (i + 1)
       grow-side q is after placed =
           let l = (opened q is).below in
@@ -209,7 +207,7 @@ module _ (first : ℕ) (at : ℕ → Pattern) (n : ℕ) (sound : (j : ℕ) → j
   pub waits-small : (count : ℕ) (before b : List ℕ) (p : Pattern) (o i : ℕ) → Progress first at n count before b p o i → count ≤ 4095 → o < 65536
   waits-small count before b p o i r h = omega (arith, waits-before r.growing, r.within)
 
-  pub never-through : clash_of at n ≡ Clear → (count : ℕ) (before b : List ℕ) (p : Pattern) (o i : ℕ)
+  pub never-through : clash_of at n ≡ None → (count : ℕ) (before b : List ℕ) (p : Pattern) (o i : ℕ)
       → Progress first at n count before b p o i → count ≡ size_of (tree_of first at n) → count ≤ i → ⊥
   never-through clear count before b p o i r size h =
       let m = seen_more first at n sound clear p i (seen_of r.growing) in

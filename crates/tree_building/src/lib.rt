@@ -1,31 +1,37 @@
 // The decision tree of a table by the rule, for any bytes: its nodes are counted, then written.
 #![tactic(auto)]
 
-ghost use Rattle.std.specs.Prelude.{◌≡◌, ◌+◌, ◌*◌, ◌<◌, ◌≤◌, length};
+ghost use Rattle.std.specs.Prelude.{Ok, ◌≡◌, ◌+◌, ◌*◌, ◌<◌, ◌≤◌, length};
 ghost use Rattle.format.specs.Check.{WellFormed};
 ghost use Rattle.format.specs.Description.{description};
 ghost use Rattle.choosing.specs.Patterns.{patterns_in};
 ghost use Rattle.tree_building_spec.specs.Tree.{tree_of, size_of};
 ghost use Rattle.tree_nodes.specs.Ready.{Ready};
-ghost use Rattle.tree_building.specs.Building.{grown, outcome_for, outcome_in, Builds, build_of, build_after};
+ghost use Rattle.tree_building.specs.Building.{outcome_for, outcome_in, Builds, build_of, build_after};
 ghost use Rattle.tree_building.specs.Room.{most_in};
+ghost use Rattle.tree_building.specs.declared.BuildError.TheVariants.{Rejected};
 ghost use Rattle.tree_building.specs.Writing.{PutsWord, PutsNode, PutsPlace, PutsTree};
 
-use acceptance::{Acceptance, Rejection};
-use choosing_spec::Clash;
+use acceptance::Rejection;
 use format::{Layout, Pattern, Section};
 use tables::Table;
 use tree_building_spec::Node;
-use tree_counting::{Counted, Turn};
 
-// The bytes written, or what is refused: a clash with its pair of constructors, or a tree that has too many nodes or does not fit.
+// What is refused: a clash with its pair of constructors, or a tree that has too many nodes or does not fit.
 #[derive(Clone, Copy)]
-pub enum Built {
-    Done(usize),
+pub enum BuildError {
     Rejected(Rejection),
     NoTable(u32),
     Clashes(usize, usize),
     TooLarge,
+}
+
+impl From<Rejection> for BuildError {
+    ghost from_gives = { λ rejection error. error ≡ Rejected rejection };
+
+    fn from(rejection: Rejection) -> BuildError {
+        BuildError::Rejected(rejection)
+    }
 }
 
 // Two bytes, from a place on.
@@ -71,12 +77,8 @@ fn write(desc: &[u8], constructors: Section, table: Table, count: usize, out: &m
         contextvalue: 0,
     };
     let mut waiting = 0;
-    let mut next = 0;
-    while next < count {
-        let i = next;
-        next = i + 1;
-        let node = tree_nodes::node_at(desc, constructors, table, p);
-        match node {
+    for i in 0..count {
+        match tree_nodes::node_at(desc, constructors, table, p) {
             Node::Test { kind, bit } => {
                 put_node(out, i, kind, bit, waiting);
                 waiting = i;
@@ -84,16 +86,15 @@ fn write(desc: &[u8], constructors: Section, table: Table, count: usize, out: &m
             }
             Node::Leaf(place) => {
                 put_node(out, i, 0, 0, place);
-                let behind = tree_counting::turned(p);
-                match behind {
-                    Turn::Whole => {
-                        return;
-                    }
-                    Turn::Side(q) => {
+                match tree_counting::turned(p) {
+                    Some(next) => {
                         let outer = tree_form::place(out, waiting);
-                        put_place(out, waiting, next);
+                        put_place(out, waiting, i + 1);
                         waiting = outer;
-                        p = q;
+                        p = next;
+                    }
+                    None => {
+                        return;
                     }
                 }
             }
@@ -105,65 +106,56 @@ fn write(desc: &[u8], constructors: Section, table: Table, count: usize, out: &m
 fn most_nodes(room: usize) -> usize
     ensures { result ≡ most_in room }
 {
-    if room < 2 {
-        return 0;
-    }
-    let nodes = (room - 2) / 4;
-    if nodes < tree_spec::MOST_NODES {
-        nodes
-    } else {
-        tree_spec::MOST_NODES
-    }
+    tree_spec::MOST_NODES.min(room.saturating_sub(2) / 4)
 }
 
 // A table without a clash. Nothing is written before its tree is known to fit.
-fn build_clear(desc: &[u8], constructors: Section, table: Table, out: &mut [u8]) -> Built
+fn build_clear(
+    desc: &[u8],
+    constructors: Section,
+    table: Table,
+    out: &mut [u8],
+) -> Result<usize, BuildError>
     requires { Ready desc.now constructors table }
-    ensures { Builds (grown (tree_of table.first (patterns_in desc.now constructors table) table.count)) out.old result out.new }
+    ensures { Builds (Ok (tree_of table.first (patterns_in desc.now constructors table) table.count)) out.old result out.new }
 {
-    let counted = tree_counting::count(desc, constructors, table, most_nodes(out.len()));
-    match counted {
-        Counted::TooMany => Built::TooLarge,
-        Counted::Nodes(nodes) => {
-            put_word(out, 0, nodes);
-            write(desc, constructors, table, nodes, out);
-            Built::Done(2 + 4 * nodes)
-        }
-    }
+    let most = most_nodes(out.len());
+    let Some(nodes) = tree_counting::count(desc, constructors, table, most) else {
+        return Err(BuildError::TooLarge);
+    };
+    put_word(out, 0, nodes);
+    write(desc, constructors, table, nodes, out);
+    Ok(2 + 4 * nodes)
 }
 
 // A table that is there.
-fn build_for(desc: &[u8], layout: Layout, table: Table, out: &mut [u8]) -> Built
+fn build_for(desc: &[u8], layout: Layout, table: Table, out: &mut [u8]) -> Result<usize, BuildError>
     requires well_formed { WellFormed desc.now layout }
     requires count_bound { table.first + table.count ≤ layout.constructors.count }
     ensures { Builds (outcome_for (description desc.now layout) table.first table.count) out.old result out.new }
 {
-    let clash = clash_check::first_clash(desc, layout, table);
-    match clash {
-        Clash::Clear => build_clear(desc, layout.constructors, table, out),
-        Clash::Pair(i, j) => Built::Clashes(table.first + i, table.first + j),
+    match clash_check::first_clash(desc, layout, table) {
+        Some((i, j)) => Err(BuildError::Clashes(table.first + i, table.first + j)),
+        None => build_clear(desc, layout.constructors, table, out),
     }
 }
 
-fn build_in(desc: &[u8], layout: Layout, t: u32, out: &mut [u8]) -> Built
+fn build_in(desc: &[u8], layout: Layout, t: u32, out: &mut [u8]) -> Result<usize, BuildError>
     requires { WellFormed desc.now layout }
     ensures { Builds (outcome_in (description desc.now layout) t) out.old result out.new }
 {
     let table = tables::table_of(desc, layout, t);
     if table.count == 0 {
-        return Built::NoTable(t);
+        return Err(BuildError::NoTable(t));
     }
     build_for(desc, layout, table, out)
 }
 
-// Any bytes as the description, any table number, any room for the tree.
-pub fn build(desc: &[u8], t: u32, out: &mut [u8]) -> Built
+// The bytes written, for any bytes as the description, any table number and any room for the tree.
+pub fn build(desc: &[u8], t: u32, out: &mut [u8]) -> Result<usize, BuildError>
     ensures value { result ≡ build_of desc.now t (length out.old) }
     ensures out_after { out.new ≡ build_after desc.now t out.old }
 {
-    let acceptance = acceptance::accept(desc);
-    match acceptance {
-        Acceptance::Accepted(layout) => build_in(desc, layout, t, out),
-        Acceptance::Rejected(rejection) => Built::Rejected(rejection),
-    }
+    let layout = acceptance::accept(desc)?;
+    build_in(desc, layout, t, out)
 }

@@ -8,19 +8,18 @@ use native.Mathlib.Numerals.{add-one}
 use native.Mathlib.Omega.{arith}
 use borrow.Author.Tests.{eq-eqb, ne_eqb, le-leb, lt-ltb, le-ltb}
 use lib.Dec.{leb, ltb, lit<}
+use Rattle.std.specs.Prelude.{None, Ok}
 use Rattle.lists.proofs.Bools.{or_yes}
 use Rattle.format.specs.declared.Pattern.{Pattern}
 use Rattle.patterns.specs.Relations.{inside, overlap}
 use Rattle.choosing_spec.specs.Clashing.{clash_of}
 use Rattle.choosing_spec.specs.ValidPattern.{ValidPattern}
-use Rattle.choosing_spec.specs.declared.Clash.TheVariants.{Clear}
 use Rattle.tree_spec.specs.Nodes.{most_nodes, no_place, count_of, kind_at, bit_at, place_at}
 use Rattle.tree_spec.specs.Form.{start, side, leaf_ok, test_ok, node_ok, form_of}
 use Rattle.tree_spec.specs.Verdicts.{Accepts}
-use Rattle.tree_spec.specs.declared.Form.TheVariants.{Good}
-use Rattle.tree_spec.specs.declared.Subtree.TheVariants.{End}
 use Rattle.tree_form.proofs.Nodes.{test-byte, test-context}
 use Rattle.tree_form.proofs.Steps.{Walks, Half, walk-leaf, walk-both, form-counted}
+use Rattle.tree_form.proofs.Trees.{ends_at}
 use Rattle.tree_rule.specs.Rule.{shows_wrong}
 use Rattle.tree_rule.proofs.Rule.{own-case, none-case, named-case}
 use Rattle.tree_theorems.specs.Path.{path_from, path_of}
@@ -56,7 +55,7 @@ module _ (first : ℕ) (at : ℕ → Pattern) (n : ℕ) where
     parts : {p : Pattern} {z o : Tree} (k : ℕ) → k < 96 → masks p k ≡ false → Ruled (longer p k 0) z → Ruled (longer p k 1) o
         → Ruled p (test (kind_of k) (bit_of k) z o)
 
-  module _ (sound : (j : ℕ) → j < n → ValidPattern (at j)) (clear : clash_of at n ≡ Clear) where
+  module _ (sound : (j : ℕ) → j < n → ValidPattern (at j)) (clear : clash_of at n ≡ None) where
     -- the tree at the end of a path is one: d is enough for the tests that the path leaves
     ruled : (d : ℕ) (p : Pattern) → ValidPattern p → 96 < tests_below 96 p + d → Ruled p (tree_at first at n p)
     ruled zero p valid h = absurd (omega (arith, tests-le 96 p))
@@ -106,13 +105,13 @@ module _ (first : ℕ) (at : ℕ → Pattern) (n : ℕ) where
 
     -- the walk of the form check goes through it
     walk-built : {p : Pattern} {t : Tree} {i : ℕ} → Ruled p t → Stands b i t → i + size_of t ≤ count_of b
-        → Walks first n b p i (End (i + size_of t) no_place)
+        → Walks first n b p i (ends_at (i + size_of t) no_place)
     unfolding size_of
     walk-built {p} {i = i} (ends d) (tip r) h = walk-leaf first n b p i (omega arith) (leaf-ok d i r) r.kind
     walk-built {p} {i = i} (parts k s free x y) (fork {z = z} {o} r u w) h =
         let next : ℕ = suc i + size_of z in
         let e : next + size_of o ≡ i + suc (size_of z + size_of o) = omega arith in
-        let half : Half first n b p i (longer p k 0) (End next no_place) =
+        let half : Half first n b p i (longer p k 0) (ends_at next no_place) =
         record {
           here = omega arith;
           good = test-ok p k i next s free r;
@@ -121,7 +120,7 @@ module _ (first : ℕ) (at : ℕ → Pattern) (n : ℕ) where
           walked = rw (add-one i) (walk-built x u (omega arith));
         } in
         rw (r.place, eq-eqb next next refl, e) at
-        (walk-both half next no_place refl (longer p k 1) (End (next + size_of o) no_place) (side-is p k i next s free r 1) (walk-built y w (omega arith)))
+        (walk-both half (record { next = next; side = no_place }) refl (longer p k 1) (ends_at (next + size_of o) no_place) (side-is p k i next s free r 1) (walk-built y w (omega arith)))
 
     -- each of its leaves is the rule's at the end of the leaf's path
     rule-built : {p : Pattern} {t : Tree} {i : ℕ} → Ruled p t → Stands b i t → (j f : ℕ) → i ≤ j → j < i + size_of t → kind_at b j ≡ 0 → j ≤ i + f
@@ -170,7 +169,7 @@ module _ (first : ℕ) (at : ℕ → Pattern) (n : ℕ) where
     rule-plain {p} (ends {v = v} d) = plain-leaf (leaf-plain p v d)
     rule-plain (parts k h free x y) = plain-test (rule-plain x) (rule-plain y)
 
-module _ (first : ℕ) (at : ℕ → Pattern) (n : ℕ) (sound : (j : ℕ) → j < n → ValidPattern (at j)) (clear : clash_of at n ≡ Clear)
+module _ (first : ℕ) (at : ℕ → Pattern) (n : ℕ) (sound : (j : ℕ) → j < n → ValidPattern (at j)) (clear : clash_of at n ≡ None)
     (low : first + n ≤ 512) where
   abbrev tree : Tree
   tree = tree_of first at n
@@ -186,11 +185,11 @@ module _ (first : ℕ) (at : ℕ → Pattern) (n : ℕ) (sound : (j : ℕ) → j
     built-stands = laid tree built-plain few
 
     -- the written tree is well formed
-    pub built-form : form_of first n (tree_bytes (tree_of first at n)) ≡ Good
+    pub built-form : form_of first n (tree_bytes (tree_of first at n)) ≡ Ok tt
     built-form =
         let c = laid-count tree few in
         let walked = walk-built first at n (tree_bytes tree) built-ruled built-stands (omega arith) in
-        sym (form-counted first n (tree_bytes tree) (End (0 + size_of tree) no_place) (laid-counted tree few) walked)
+        sym (form-counted first n (tree_bytes tree) (ends_at (0 + size_of tree) no_place) (laid-counted tree few) walked)
         ∙ rw (eq-eqb (0 + size_of tree) (count_of (tree_bytes tree)) (omega arith))
 
     -- each leaf is the rule's

@@ -7,6 +7,7 @@ use native.Mathlib.Decide.{ℕ_discrete}
 use native.Mathlib.Omega.{arith}
 use borrow.Author.Tests.{eq-eqb, ne_eqb, lt-ltb, le-ltb, not-true, not-false}
 use lib.Dec.{eqb}
+use Rattle.std.specs.Prelude.{None}
 use Rattle.lists.specs.Below.{all_below, any_below, first_below}
 use Rattle.lists.proofs.Below.{First, all-at, all_of, any_at, any_found, first-is, first-here, first_done}
 use Rattle.lists.proofs.Bools.{and_left, and_right, and_both, and3, or_yes}
@@ -15,7 +16,6 @@ use Rattle.patterns.specs.Relations.{inside}
 use Rattle.choosing_spec.specs.Choosing.{matching}
 use Rattle.choosing_spec.specs.Clashing.{clash_of}
 use Rattle.choosing_spec.specs.ValidPattern.{ValidPattern}
-use Rattle.choosing_spec.specs.declared.Clash.TheVariants.{Clear}
 use Rattle.choosing_theorems.proofs.Clear.{Took, took}
 use Rattle.choosing_theorems.proofs.Fits.{InWord, Fits, fits-up}
 use Rattle.choosing_theorems.proofs.None.{none-at, none_of}
@@ -218,7 +218,7 @@ module _ (at : ℕ → Pattern) (n : ℕ) (sound : (j : ℕ) → j < n → Valid
         (record { within = omega (arith, r.small); before = all_of (λ k. not (wanted at n p k)) k (λ j h. rw (r.none j h)); fails = λ _. rw r.here }) in
         rw (any_at (live at n p) n w.by w.within w.lives, s, l, le-ltb n n (omega arith))
 
-  module _ (clear : clash_of at n ≡ Clear) where
+  module _ (clear : clash_of at n ≡ None) where
     -- where no bit is wanted, one of the live patterns lies inside all others
     pub some-inmost : NoneWanted at n p → (j : ℕ) → j < n → live at n p j ≡ true → (t : ℕ) × Innermost at n p t
     some-inmost f j h e =

@@ -5,10 +5,10 @@ use mathlib.Core.Path.{◌≡◌, refl, ◌∙◌}
 use native.Mathlib.Decide.{dec_lt}
 use native.Mathlib.Omega.{arith}
 use lib.Dec.{lit<}
+use Rattle.std.specs.Prelude.{None}
 use Rattle.format.specs.declared.Pattern.{Pattern}
 use Rattle.choosing_spec.specs.Clashing.{clash_of}
 use Rattle.choosing_spec.specs.ValidPattern.{ValidPattern}
-use Rattle.choosing_spec.specs.declared.Clash.TheVariants.{Clear}
 use Rattle.tree_spec.specs.Form.{start, side}
 use Rattle.tree_theorems.proofs.Sides.{sound-start}
 use Rattle.tree_building_spec.specs.Rule.{masks, kind_of, bit_of, node_of}
@@ -95,7 +95,7 @@ module _ (first : ℕ) (at : ℕ → Pattern) (n : ℕ) where
   test-grows p k valid h free e = tree-grows p ∙ rw (e, ← side-depth p k 0 valid h free (lit< tt), ← side-depth p k 1 valid h free (lit< tt))
 
   -- with any depth that is enough the tree is the same
-  module _ (sound : (j : ℕ) → j < n → ValidPattern (at j)) (clear : clash_of at n ≡ Clear) where
+  module _ (sound : (j : ℕ) → j < n → ValidPattern (at j)) (clear : clash_of at n ≡ None) where
     pub deep-enough : (d e : ℕ) (p : Pattern) → ValidPattern p → 96 < tests_below 96 p + d → 96 < tests_below 96 p + e
         → tree_from first at n d p ≡ tree_from first at n e p
     unfolding tree_from

@@ -1,30 +1,29 @@
 -- The search over the leaves, step by step.
 use Prim.Native.Nat.{ℕ, ◌+◌, ◌-◌, ◌<◌}
-use mathlib.Core.Bool.{Bool, false}
+use mathlib.Core.Bool.{Bool, true, false, cond}
 use mathlib.Core.List.{List}
-use mathlib.Core.Path.{◌≡◌, sym, ◌∙◌}
-use native.Mathlib.Decide.{dec_lt, ℕ_discrete}
+use mathlib.Core.Path.{◌≡◌, refl, sym, ◌∙◌}
+use native.Mathlib.Decide.{dec_lt}
 use native.Mathlib.Omega.{arith}
-use borrow.Author.Tests.{eq-eqb}
 use lib.Dec.{eqb}
+use Rattle.std.specs.Prelude.{Option, Some, None}
 use Rattle.lists.specs.Below.{any_below}
 use Rattle.lists.proofs.Below.{any-more}
 use Rattle.format.specs.declared.Pattern.{Pattern}
 use Rattle.tables.specs.declared.Table.{Table}
 use Rattle.tree_spec.specs.Nodes.{no_place, kind_at}
-use Rattle.tree_rule.specs.Rule.{refutes, shows_wrong}
-use Rattle.tree_check.specs.Search.{ClearLeaf, ClearBefore}
+use Rattle.tree_rule.specs.Rule.{refutes, refuted, shows_wrong}
+use Rattle.tree_check.specs.Search.{ClearLeaf, ClearBefore, named_in}
 
--- what the code tests of record j is the rule: of a leaf that says none the named pattern does not count
-pub shows-is : (first : ℕ) (at : ℕ → Pattern) (p : Pattern) (v j : ℕ) (named q : Pattern)
-    → ((v ≡ no_place → ⊥) → named ≡ at (v - first)) → q ≡ at j
-    → refutes (eqb (first + j) v) (eqb v no_place) p named q ≡ shows_wrong first at p v j
+-- what the code tests of record j is the rule
+pub shows-is : (first : ℕ) (at : ℕ → Pattern) (p : Pattern) (v j : ℕ) (named : Option Pattern) (q : Pattern) → named ≡ named_in first at v → q ≡ at j
+    → refuted (eqb (first + j) v) p named q ≡ shows_wrong first at p v j
 unfolding shows_wrong refutes
-shows-is first at p v j named q f e = go (ℕ_discrete v no_place)
+shows-is first at p v j named q f e = rw (f, e) (go (eqb v no_place))
   where
-    go : Dec (v ≡ no_place) → refutes (eqb (first + j) v) (eqb v no_place) p named q ≡ refutes (eqb (first + j) v) (eqb v no_place) p (at (v - first)) (at j)
-    go (yes m) = rw (eq-eqb v no_place m, e)
-    go (no m) = rw (f m, e)
+    go : (none : Bool) → refuted (eqb (first + j) v) p (cond none None (Some (at (v - first)))) (at j) ≡ refutes (eqb (first + j) v) none p (at (v - first)) (at j)
+    go true = refl
+    go false = refl
 
 module _ (at : ℕ → Pattern) (table : Table) (tree : List ℕ) where
   pub clear_none : ClearBefore at table tree 0
@@ -41,7 +40,7 @@ pub none_more : (ok : ℕ → Bool) (j : ℕ) → any_below j ok ≡ false → o
 none_more ok j e f = any-more ok j ∙ rw (e, f)
 
 -- the same with the path and the leaf's word as the code has them
-pub shown-is : (first : ℕ) (at : ℕ → Pattern) (p p' : Pattern) (v v' j : ℕ) (named q : Pattern) (r : Bool)
-    → p' ≡ p → v' ≡ v → ((v' ≡ no_place → ⊥) → named ≡ at (v' - first)) → q ≡ at j
-    → r ≡ refutes (eqb (first + j) v') (eqb v' no_place) p' named q → shows_wrong first at p v j ≡ r
+pub shown-is : (first : ℕ) (at : ℕ → Pattern) (p p' : Pattern) (v v' j : ℕ) (named : Option Pattern) (q : Pattern) (r : Bool)
+    → p' ≡ p → v' ≡ v → named ≡ named_in first at v' → q ≡ at j
+    → r ≡ refuted (eqb (first + j) v') p' named q → shows_wrong first at p v j ≡ r
 shown-is first at p p' v v' j named q r a b f e s = sym (s ∙ shows-is first at p' v' j named q f e ∙ rw (a, b))

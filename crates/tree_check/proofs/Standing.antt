@@ -6,10 +6,10 @@ use mathlib.Core.Path.{◌≡◌, refl, sym, ◌∙◌}
 use native.Mathlib.Numerals.{add-one}
 use native.Mathlib.Omega.{arith}
 use lib.ListN.{length}
+use Rattle.std.specs.Prelude.{Ok}
 use Rattle.format.specs.declared.Pattern.{Pattern}
 use Rattle.tree_spec.specs.Nodes.{count_of, kind_at, bit_at, place_at}
 use Rattle.tree_spec.specs.Form.{start, side, form_of}
-use Rattle.tree_spec.specs.declared.Form.TheVariants.{Good}
 use Rattle.tree_form.proofs.Trees.{Tree, tip, fork, tree_of, good-counted, sized, test-fresh}
 use Rattle.tree_theorems.specs.Path.{path_from, path_of}
 use Rattle.tree_theorems.proofs.Reach.{span, path-end, path-zero, path-one}
@@ -35,7 +35,7 @@ pub record Test (b : List ℕ) (t : ℕ) : Type 0 where
   pub ahead : t < place_at b t
 
 module _ (b : List ℕ) (leaf : ℕ) where
-  pub stand-first : (first n : ℕ) → form_of first n b ≡ Good → leaf < count_of b → kind_at b leaf ≡ 0 → Standing b leaf start 0
+  pub stand-first : (first n : ℕ) → form_of first n b ≡ Ok tt → leaf < count_of b → kind_at b leaf ≡ 0 → Standing b leaf start 0
   unfolding path_of
   stand-first first n g l k =
       record {

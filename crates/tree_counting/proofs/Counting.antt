@@ -5,10 +5,10 @@ use native.Mathlib.Decide.{dec_lt}
 use native.Mathlib.Numerals.{add-one}
 use native.Mathlib.Omega.{arith}
 use borrow.Author.Tests.{le-leb, lt-leb, lt-ltb, le-ltb}
+use Rattle.std.specs.Prelude.{Option, Some, None}
 use Rattle.format.specs.declared.Pattern.{Pattern}
 use Rattle.choosing_spec.specs.Clashing.{clash_of}
 use Rattle.choosing_spec.specs.ValidPattern.{ValidPattern}
-use Rattle.choosing_spec.specs.declared.Clash.TheVariants.{Clear}
 use Rattle.tree_spec.specs.Nodes.{no_place}
 use Rattle.tree_spec.specs.Form.{side}
 use Rattle.tree_building_spec.specs.Rule.{kind_of, bit_of, node_of}
@@ -24,9 +24,6 @@ use Rattle.tree_building_theorems.proofs.Laid.{size-some}
 use Rattle.tree_counting.specs.Counting.{counted_of}
 use Rattle.tree_counting.specs.Seen.{Seen, zeroth}
 use Rattle.tree_counting.specs.Turning.{Turns}
-use Rattle.tree_counting.specs.declared.Counted.TheVariants.{Nodes, TooMany}
-use Rattle.tree_counting.specs.declared.Turn.{Turn}
-use Rattle.tree_counting.specs.declared.Turn.TheVariants.{Whole, Side}
 use Rattle.tree_counting.proofs.Paths.{seen-valid, seen-within, climb}
 
 bit-fits : (k a b : ℕ) → k < 96 → a ≡ kind_of k → b ≡ bit_of k → (b < 64) × ((a ≡ 1 → ⊥) → b < 32)
@@ -41,7 +38,7 @@ bit-fits k a b h x y = go (dec_lt k 64)
         let y1 : b ≡ k - 64 = rw (le-ltb k 64 (omega arith)) at y in
         (omega arith, λ f. omega arith)
 
-module _ (first : ℕ) (at : ℕ → Pattern) (n : ℕ) (sound : (j : ℕ) → j < n → ValidPattern (at j)) (clear : clash_of at n ≡ Clear) where
+module _ (first : ℕ) (at : ℕ → Pattern) (n : ℕ) (sound : (j : ℕ) → j < n → ValidPattern (at j)) (clear : clash_of at n ≡ None) where
   -- what a test is, and what a leaf says
   pub record TestAt (p : Pattern) (a b : ℕ) : Type 0 where
     pub at-bit : ℕ
@@ -50,8 +47,8 @@ module _ (first : ℕ) (at : ℕ → Pattern) (n : ℕ) (sound : (j : ℕ) → j
     pub bit : b ≡ bit_of at-bit
 
   test-inside : (p : Pattern) (nd : Node) → Decides first at n p nd → (a b : ℕ) → nd ≡ Test a b → TestAt p a b
-  test-inside p _ (empty f) a b e = absurd (let z : ◌≡◌ {A = ℕ} 0 1 = cc in omega arith)
-  test-inside p _ (names t r) a b e = absurd (let z : ◌≡◌ {A = ℕ} 0 1 = cc in omega arith)
+  test-inside p _ (empty f) a b e = cc
+  test-inside p _ (names t r) a b e = cc
   test-inside p _ (tests k low) a b e =
       let x : a ≡ kind_of k = cc in
       let y : b ≡ bit_of k = cc in
@@ -63,7 +60,7 @@ module _ (first : ℕ) (at : ℕ → Pattern) (n : ℕ) (sound : (j : ℕ) → j
   leaf-inside : (p : Pattern) (nd : Node) → Decides first at n p nd → (v : ℕ) → nd ≡ Leaf v → first + n ≤ 512 → v < 65536
   leaf-inside p _ (empty f) v e low = let z : v ≡ no_place = cc in omega arith
   leaf-inside p _ (names t r) v e low = let z : v ≡ first + t = cc in omega (arith, r.within)
-  leaf-inside p _ (tests k r) v e low = absurd (let z : ◌≡◌ {A = ℕ} 0 1 = cc in omega arith)
+  leaf-inside p _ (tests k r) v e low = cc
 
   -- a leaf's place fits two bytes
   pub leaf-small : (p : Pattern) → ValidPattern p → first + n ≤ 512 → (v : ℕ) → node_of first at n p ≡ Leaf v → v < 65536
@@ -86,18 +83,18 @@ module _ (first : ℕ) (at : ℕ → Pattern) (n : ℕ) (sound : (j : ℕ) → j
     unfolding size_of
     leaf-size v e = rw (leaf-grows first at n p v e)
 
-    pub seen-side : (v : ℕ) → node_of first at n p ≡ Leaf v → (q : Pattern) (r : Turn) → Turns p r → r ≡ Side q → Seen first at n q (m + 1)
-    seen-side v e q r t is = rw (leaf-size v e) at (climb first at n sound seen (Side q) (subst (Turns p) is t))
+    pub seen-side : (v : ℕ) → node_of first at n p ≡ Leaf v → (q : Pattern) (r : Option Pattern) → Turns p r → r ≡ Some q → Seen first at n q (m + 1)
+    seen-side v e q r t is = rw (leaf-size v e) at (climb first at n sound seen (Some q) (subst (Turns p) is t))
 
-    pub seen-whole : (v most : ℕ) → node_of first at n p ≡ Leaf v → (r : Turn) → Turns p r → r ≡ Whole → m < most
-        → Nodes (m + 1) ≡ counted_of most (size_of (tree_of first at n))
+    pub seen-whole : (v most : ℕ) → node_of first at n p ≡ Leaf v → (r : Option Pattern) → Turns p r → r ≡ None → m < most
+        → Some (m + 1) ≡ counted_of most (size_of (tree_of first at n))
     seen-whole v most e r t is h =
-        let z : m + 1 ≡ size_of (tree_of first at n) = rw (leaf-size v e) at (climb first at n sound seen Whole (subst (Turns p) is t)) in
+        let z : m + 1 ≡ size_of (tree_of first at n) = rw (leaf-size v e) at (climb first at n sound seen None (subst (Turns p) is t)) in
         rw (← z, le-leb (m + 1) most (omega arith))
 
     -- a node is still to be looked at
     pub seen_more : m < size_of (tree_of first at n)
     seen_more = omega (arith, seen-within first at n sound seen, size-some (tree_at first at n p))
 
-    pub seen-too-many : (most : ℕ) → most ≤ m → TooMany ≡ counted_of most (size_of (tree_of first at n))
+    pub seen-too-many : (most : ℕ) → most ≤ m → None ≡ counted_of most (size_of (tree_of first at n))
     seen-too-many most h = rw (lt-leb (size_of (tree_of first at n)) most (omega (arith, seen_more)))

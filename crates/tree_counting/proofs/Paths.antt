@@ -7,6 +7,7 @@ use native.Mathlib.Decide.{dec_lt, ℕ_discrete}
 use native.Mathlib.Omega.{arith}
 use borrow.Author.Tests.{eq-eqb, ne_eqb, lt-ltb, le-ltb, ltb-true}
 use lib.Dec.{eqb, ltb, lit<}
+use Rattle.std.specs.Prelude.{Option, Some, None}
 use Rattle.format.specs.declared.Pattern.{Pattern}
 use Rattle.choosing_spec.specs.ValidPattern.{ValidPattern}
 use Rattle.tree_theorems.proofs.Sides.{sound-start}
@@ -20,8 +21,6 @@ use Rattle.tree_building_theorems.proofs.Deciding.{wanted-is, is-wanted, node-te
 use Rattle.tree_building_theorems.proofs.Growth.{tree-start, test-grows}
 use Rattle.tree_counting.specs.Turning.{LastZero, TurnedAt, Turns}
 use Rattle.tree_counting.specs.Seen.{Seen, begin, zeroth, oneth}
-use Rattle.tree_counting.specs.declared.Turn.{Turn}
-use Rattle.tree_counting.specs.declared.Turn.TheVariants.{Whole, Side}
 
 module _ (at : ℕ → Pattern) (n : ℕ) (q : Pattern) (k : ℕ) (low : Lowest at n q k) (valid : ValidPattern q) where
   free : masks q k ≡ false
@@ -110,11 +109,11 @@ module _ (at : ℕ → Pattern) (n : ℕ) (q : Pattern) (k : ℕ) (low : Lowest 
             rw (ne_eqb j k e, le-ltb j k (omega arith)) (sym ((other 1 (lit< tt) j h e).1 ∙ value-free q valid j (none j h (omega arith))))
 
     -- what comes behind the one side comes behind q
-    pub one-turns : (r : Turn) → Turns (longer q k 1) r → Turns q r
-    one-turns Whole f = λ j h m.
+    pub one-turns : (r : Option Pattern) → Turns (longer q k 1) r → Turns q r
+    one-turns None f = λ j h m.
         let o = other 1 (lit< tt) j h (unlike 1 (lit< tt) j m) in
         sym o.1 ∙ f j h (o.0 ∙ m)
-    one-turns (Side r) (z, last, turned) =
+    one-turns (Some r) (z, last, turned) =
         let d : z ≡ k → ⊥ = λ e. absurd (differs e) in
         let o = other 1 (lit< tt) z last.small d in
         let m : masks q z ≡ true = sym o.0 ∙ last.tested in
@@ -195,15 +194,15 @@ module _ (first : ℕ) (at : ℕ → Pattern) (n : ℕ) (sound : (j : ℕ) → j
   seen-within (oneth {q} k low s) = omega (arith, seen-within s, test-size q k low (seen-valid s))
 
   -- behind a finished path the whole tree is finished, or the next path follows
-  abbrev pub Climbed : ℕ → Turn → Type 0
-  Climbed e Whole = e ≡ size_of (tree_of first at n)
-  Climbed e (Side q) = Seen first at n q e
+  abbrev pub Climbed : ℕ → Option Pattern → Type 0
+  Climbed e None = e ≡ size_of (tree_of first at n)
+  Climbed e (Some q) = Seen first at n q e
 
-  pub climb : {p : Pattern} {m : ℕ} → Seen first at n p m → (r : Turn) → Turns p r → Climbed (m + size_of (tree_at first at n p)) r
-  climb begin Whole f = rw (tree-start first at n) (omega arith)
-  climb begin (Side q) (z, last, turned) = absurd (false≢true (sym (start-masks z) ∙ last.tested))
-  climb (zeroth {q} k low s) Whole f = absurd (zero-whole at n q k low (seen-valid s) (ascends-to s k low) f)
-  climb (zeroth {q} k low s) (Side r) (z, last, turned) =
+  pub climb : {p : Pattern} {m : ℕ} → Seen first at n p m → (r : Option Pattern) → Turns p r → Climbed (m + size_of (tree_at first at n p)) r
+  climb begin None f = rw (tree-start first at n) (omega arith)
+  climb begin (Some q) (z, last, turned) = absurd (false≢true (sym (start-masks z) ∙ last.tested))
+  climb (zeroth {q} k low s) None f = absurd (zero-whole at n q k low (seen-valid s) (ascends-to s k low) f)
+  climb (zeroth {q} k low s) (Some r) (z, last, turned) =
       rw (zero-turned at n q k low (seen-valid s) (ascends-to s k low) z r last turned) (oneth k low s)
   climb (oneth {q} {m} k low s) r f =
       let size = test-size q k low (seen-valid s) in

@@ -11,6 +11,7 @@ use lib.Count.{count_leading_zeros, leading_top}
 use lib.Dec.{eqb, ltb, lit<}
 use native.Mathlib.Numerals.{one-add}
 use lib.Pow.{pow_pos, pow_mono, pow-lt, shl_exact, shr_lt, split}
+use Rattle.std.specs.Prelude.{Option, Some, None}
 use Rattle.bits.specs.Bits.{bit, is_set}
 use Rattle.bits.proofs.Digits.{bit-small, bit-and, bit-or, bit-xor, either, low_bit}
 use Rattle.bits.proofs.Words.{same_bits}
@@ -20,8 +21,6 @@ use Rattle.bits.proofs.Single.{power-own, power-other}
 use Rattle.tree_building_spec.specs.Rule.{masks}
 use Rattle.tree_building_theorems.specs.Numbered.{value_at}
 use Rattle.tree_building_theorems.proofs.Numbered.{masks-byte, masks-context, value-byte, value-context}
-use Rattle.tree_counting.specs.declared.Turn.{Turn}
-use Rattle.tree_counting.specs.declared.Turn.TheVariants.{Whole, Side}
 use Rattle.tree_counting.specs.Turning.{top_of, cut_at, turn_of, HighestSet, LastZero, TurnedAt, Turns}
 
 -- a word that is not 0 has not only zeros
@@ -316,10 +315,10 @@ module _ (p : Pattern) (valid : ValidPattern p) where
   turn-of = go (eqb context 0) refl (eqb bytes 0) refl
     where
       go : (a : Bool) → eqb context 0 ≡ a → (b : Bool) → eqb bytes 0 ≡ b
-          → Turns p (cond a (cond b Whole (Side (byte_turned (top_of bytes)))) (Side (context_turned (top_of context))))
+          → Turns p (cond a (cond b None (Some (byte_turned (top_of bytes)))) (Some (context_turned (top_of context))))
       go false e b f = turn-context (top_of context) (highest-context (eqb-false context 0 e))
       go true e false f = turn_byte (top_of bytes) (eqb-true context 0 e) (highest-byte (eqb-false bytes 0 f))
       go true e true f = turn-whole (eqb-true context 0 e) (eqb-true bytes 0 f)
 
-  pub turns-of : (r : Turn) → r ≡ turn_of p → Turns p r
+  pub turns-of : (r : Option Pattern) → r ≡ turn_of p → Turns p r
   turns-of r e = rw e turn-of

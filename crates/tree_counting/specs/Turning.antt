@@ -1,5 +1,5 @@
 -- From the end of a finished path to the next one: the last test that went to its zero side is turned to its one side.
-use Rattle.std.specs.Prelude.{ℕ, ◌-◌, ◌^◌, ◌<◌, true, false, cond, ◌≡◌, eqb, ltb}
+use Rattle.std.specs.Prelude.{ℕ, ◌-◌, ◌^◌, ◌<◌, true, false, cond, ◌≡◌, eqb, ltb, Option, Some, None}
 use Rattle.std.specs.Int.Bits.{bit_and, bit_or, bit_xor}
 use Rattle.std.specs.Int.Count.{count_leading_zeros}
 use Rattle.bits.specs.Bits.{bit}
@@ -7,8 +7,6 @@ use Rattle.format.specs.declared.Pattern.{Pattern}
 use Rattle.choosing_spec.specs.ValidPattern.{ValidPattern}
 use Rattle.tree_building_spec.specs.Rule.{masks}
 use Rattle.tree_building_theorems.specs.Numbered.{value_at}
-use Rattle.tree_counting.specs.declared.Turn.{Turn}
-use Rattle.tree_counting.specs.declared.Turn.TheVariants.{Whole, Side}
 
 -- the highest set bit of a word that is not 0, as a word
 abbrev pub top_of : ℕ → ℕ
@@ -19,7 +17,7 @@ abbrev pub cut_at : ℕ → ℕ → ℕ
 cut_at x top = bit_or (bit_and x (top - 1)) top
 
 -- the last test that went to its zero side is the highest bit of those tested to be 0: it is turned, and the tests behind it are dropped
-unfoldable pub turn_of : Pattern → Turn
+unfoldable pub turn_of : Pattern → Option Pattern
 turn_of p =
     let bytes = bit_xor p.mask p.value in
     let context = bit_xor p.contextmask p.contextvalue in
@@ -27,7 +25,7 @@ turn_of p =
     record { mask = cut_at p.mask (top_of bytes); value = cut_at p.value (top_of bytes); contextmask = 0; contextvalue = 0 } in
     let contextual : Pattern =
     record { mask = p.mask; value = p.value; contextmask = cut_at p.contextmask (top_of context); contextvalue = cut_at p.contextvalue (top_of context) } in
-    cond (eqb context 0) (cond (eqb bytes 0) Whole (Side byte)) (Side contextual)
+    cond (eqb context 0) (cond (eqb bytes 0) None (Some byte)) (Some contextual)
 
 -- a word has one highest bit that is set
 pub record HighestSet (x top : ℕ) : Type 0 where
@@ -50,6 +48,6 @@ pub record TurnedAt (p : Pattern) (z : ℕ) (q : Pattern) : Type 0 where
   pub tests : (k : ℕ) → k < 96 → masks q k ≡ cond (eqb k z) true (cond (ltb k z) (masks p k) false)
   pub values : (k : ℕ) → k < 96 → value_at q k ≡ cond (eqb k z) 1 (cond (ltb k z) (value_at p k) 0)
 
-abbrev pub Turns : Pattern → Turn → Type 0
-Turns p Whole = (k : ℕ) → k < 96 → masks p k ≡ true → value_at p k ≡ 1
-Turns p (Side q) = (z : ℕ) × LastZero p z × TurnedAt p z q
+abbrev pub Turns : Pattern → Option Pattern → Type 0
+Turns p None = (k : ℕ) → k < 96 → masks p k ≡ true → value_at p k ≡ 1
+Turns p (Some q) = (z : ℕ) × LastZero p z × TurnedAt p z q

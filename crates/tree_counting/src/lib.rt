@@ -14,19 +14,6 @@ use format::{Pattern, Section};
 use tables::Table;
 use tree_building_spec::Node;
 
-// Behind a path whose tree is finished: the whole tree is finished, or the path to the next side.
-#[derive(Clone, Copy)]
-pub enum Turn {
-    Whole,
-    Side(Pattern),
-}
-
-#[derive(Clone, Copy)]
-pub enum Counted {
-    Nodes(usize),
-    TooMany,
-}
-
 // The highest set bit of a word that is not 0, as a word.
 fn highest(word: u64) -> u64
     requires { word ≡ 0 → ⊥ }
@@ -43,16 +30,16 @@ fn cut(word: u64, top: u64) -> u64
     (word & (top - 1)) | top
 }
 
-// The last test that went to its zero side is the highest bit of those tested to be 0. It is turned to its one side, and the tests
-// behind it are dropped.
-pub fn turned(p: Pattern) -> Turn
+// Behind a path whose tree is finished the path to the next side, unless the whole tree is finished. The last test that went to its
+// zero side is the highest bit of those tested to be 0. It is turned to its one side, and the tests behind it are dropped.
+pub fn turned(p: Pattern) -> Option<Pattern>
     requires { ValidPattern p }
     ensures { result ≡ turn_of p }
 {
     let context = p.contextmask ^ p.contextvalue;
     if context != 0 {
         let top = highest(context as u64);
-        return Turn::Side(Pattern {
+        return Some(Pattern {
             mask: p.mask,
             value: p.value,
             contextmask: cut(p.contextmask as u64, top) as u32,
@@ -62,18 +49,18 @@ pub fn turned(p: Pattern) -> Turn
     let bytes = p.mask ^ p.value;
     if bytes != 0 {
         let top = highest(bytes);
-        return Turn::Side(Pattern {
+        return Some(Pattern {
             mask: cut(p.mask, top),
             value: cut(p.value, top),
             contextmask: 0,
             contextvalue: 0,
         });
     }
-    Turn::Whole
+    None
 }
 
 // How many nodes the tree has, if no more than `most`; no more than that are looked at.
-pub fn count(desc: &[u8], constructors: Section, table: Table, most: usize) -> Counted
+pub fn count(desc: &[u8], constructors: Section, table: Table, most: usize) -> Option<usize>
     requires { Ready desc.now constructors table }
     ensures { result ≡ counted_of most (size_of (tree_of table.first (patterns_in desc.now constructors table) table.count)) }
 {
@@ -83,26 +70,20 @@ pub fn count(desc: &[u8], constructors: Section, table: Table, most: usize) -> C
         contextmask: 0,
         contextvalue: 0,
     };
-    let mut n = 0;
-    while n < most {
-        n += 1;
-        let node = tree_nodes::node_at(desc, constructors, table, p);
-        match node {
+    for before in 0..most {
+        match tree_nodes::node_at(desc, constructors, table, p) {
             Node::Test { kind, bit } => {
                 p = tree_form::side_of(p, kind, bit, 0);
             }
-            Node::Leaf(_) => {
-                let behind = turned(p);
-                match behind {
-                    Turn::Whole => {
-                        return Counted::Nodes(n);
-                    }
-                    Turn::Side(q) => {
-                        p = q;
-                    }
+            Node::Leaf(_) => match turned(p) {
+                Some(next) => {
+                    p = next;
                 }
-            }
+                None => {
+                    return Some(before + 1);
+                }
+            },
         }
     }
-    Counted::TooMany
+    None
 }

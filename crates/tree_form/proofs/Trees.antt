@@ -3,31 +3,27 @@ use Prim.Native.Nat.{ℕ, zero, suc, ◌+◌, ◌*◌, ◌<◌, ◌≤◌, min}
 use mathlib.Core.Bool.{Bool, true, false, cond}
 use mathlib.Core.List.{List}
 use mathlib.Core.Logic.{◌⊎◌}
-use mathlib.Core.Path.{◌≡◌, refl, sym}
+use mathlib.Core.Path.{◌≡◌, refl, sym, ap}
 use native.Mathlib.Omega.{arith}
 use borrow.Author.Tests.{eqb-true, eqb-false, leb-true, ltb-true}
 use lib.Dec.{eqb, leb, ltb}
 use lib.ListN.{length}
+use Rattle.std.specs.Prelude.{Result, Ok, Err}
 use Rattle.lists.proofs.Bools.{and4}
 use Rattle.bits.specs.Bits.{is_set}
 use Rattle.format.specs.declared.Pattern.{Pattern}
 use Rattle.patterns.specs.Words.{Small}
 use Rattle.tree_spec.specs.Nodes.{most_nodes, no_place, count_of, kind_at, bit_at, place_at}
 use Rattle.tree_spec.specs.Form.{start, side, node_ok, closed, forked, walk_of, ended, counted, form_of}
-use Rattle.tree_spec.specs.declared.Form.TheVariants.{Good, Bad}
 use Rattle.tree_spec.specs.declared.Subtree.{Subtree}
-use Rattle.tree_spec.specs.declared.Subtree.TheVariants.{End, Fault, Out}
+use Rattle.tree_spec.specs.declared.NoSubtree.{NoSubtree}
+use Rattle.tree_spec.specs.declared.NoSubtree.TheVariants.{Fault, Out}
 use Rattle.tree_form.proofs.Nodes.{leaf-place, test_bit, bit-fits}
 use Rattle.tree_form.proofs.Sides.{side-small}
 
-no-fault : {A : Type 0} (k e s : ℕ) → Fault k ≡ End e s → A
-no-fault k e s h = let z : ◌≡◌ {A = ℕ} 0 1 = cc in absurd (omega arith)
-
-no-out : {A : Type 0} (e s : ℕ) → Out ≡ End e s → A
-no-out e s h = let z : ◌≡◌ {A = ℕ} 0 1 = cc in absurd (omega arith)
-
-not_good : {A : Type 0} (k : ℕ) → Bad k ≡ Good → A
-not_good k h = let z : ◌≡◌ {A = ℕ} 0 1 = cc in absurd (omega arith)
+-- a subtree that ends before node e, and whose lowest node with its one side elsewhere is s
+abbrev pub ends_at : ℕ → ℕ → Result Subtree NoSubtree
+ends_at e s = Ok (record { next = e; side = s })
 
 -- a count of nodes, and just their bytes
 pub record Sized (b : List ℕ) : Type 0 where
@@ -41,8 +37,9 @@ sized b h =
     record { some = leb-true _ _ t.1; few = leb-true _ _ t.2; bytes = eqb-true _ _ t.3 }
 
 -- a walk of a node, from the node's tests and the walk of its zero side
-abbrev step : Bool → Bool → Bool → ℕ → ℕ → Subtree → (ℕ → Subtree) → Subtree
-step here ok last i place low more = cond here (cond ok (cond last (End (suc i) no_place) (forked i place low more)) (Fault i)) Out
+abbrev step : Bool → Bool → Bool → ℕ → ℕ → Result Subtree NoSubtree → (ℕ → Result Subtree NoSubtree) → Result Subtree NoSubtree
+step here ok last i place low more =
+    cond here (cond ok (cond last (ends_at (suc i) no_place) (forked i place low more)) (Err (Fault i))) (Err Out)
 
 module _ (first n : ℕ) (b : List ℕ) where
   -- a subtree: the path to it, its first node, and the node behind it
@@ -63,37 +60,35 @@ module _ (first n : ℕ) (b : List ℕ) where
         → Span p i e s
 
   abbrev Spans : ℕ → Type 0
-  Spans deep = (p : Pattern) (i e s : ℕ) → walk_of first n b deep p i ≡ End e s → Span p i e s
+  Spans deep = (p : Pattern) (i e s : ℕ) → walk_of first n b deep p i ≡ ends_at e s → Span p i e s
 
   module _ (deep : ℕ) (shallow : Spans deep) (p : Pattern) (i e s : ℕ) where
     both : i < count_of b → node_ok first n p b i ≡ true → (kind_at b i ≡ 0 → ⊥)
-        → (next low : ℕ) → walk_of first n b deep (side p (kind_at b i) (bit_at b i) 0) (suc i) ≡ End next low
-        → (w : Subtree) → walk_of first n b deep (side p (kind_at b i) (bit_at b i) 1) next ≡ w
-        → closed (cond (eqb (place_at b i) next) no_place i) low w ≡ End e s → Span p i e s
-    both here ok f next low z (End f2 high) o h =
-        let q : f2 ≡ e = cc in
-        let m : s ≡ min (cond (eqb (place_at b i) next) no_place i) (min low high) = cc in
-        test next low high here ok f (shallow _ _ _ _ z) (rw q at (shallow _ _ _ _ o)) m
-    both here ok f next low z (Fault k) o h = no-fault k e s h
-    both here ok f next low z Out o h = no-out e s h
+        → (next low : ℕ) → walk_of first n b deep (side p (kind_at b i) (bit_at b i) 0) (suc i) ≡ ends_at next low
+        → (w : Result Subtree NoSubtree) → walk_of first n b deep (side p (kind_at b i) (bit_at b i) 1) next ≡ w
+        → closed (cond (eqb (place_at b i) next) no_place i) low w ≡ ends_at e s → Span p i e s
+    both here ok f next low z (Ok w) o h =
+        let r : ◌≡◌ {A = Subtree} (record { next = w.next; side = min (cond (eqb (place_at b i) next) no_place i) (min low w.side) }) (record { next = e; side = s }) = cc in
+        let q : w.next ≡ e = ap (λ x. x.next) r in
+        test next low w.side here ok f (shallow _ _ _ _ z) (rw q at (shallow _ _ _ _ o)) (sym (ap (λ x. x.side) r))
+    both here ok f next low z (Err x) o h = cc
 
-    one : (here ok last : Bool) (w : Subtree) → ltb i (count_of b) ≡ here → node_ok first n p b i ≡ ok → eqb (kind_at b i) 0 ≡ last
+    one : (here ok last : Bool) (w : Result Subtree NoSubtree) → ltb i (count_of b) ≡ here → node_ok first n p b i ≡ ok → eqb (kind_at b i) 0 ≡ last
         → walk_of first n b deep (side p (kind_at b i) (bit_at b i) 0) (suc i) ≡ w
-        → step here ok last i (place_at b i) w (λ next. walk_of first n b deep (side p (kind_at b i) (bit_at b i) 1) next) ≡ End e s
+        → step here ok last i (place_at b i) w (λ next. walk_of first n b deep (side p (kind_at b i) (bit_at b i) 1) next) ≡ ends_at e s
         → Span p i e s
     one true true true w l g k z h =
-        let q : e ≡ suc i = cc in
-        leaf (ltb-true _ _ l) g (eqb-true _ _ k) q
-    one true true false (End next low) l g k z h =
-        both (ltb-true _ _ l) g (eqb-false _ _ k) next low z (walk_of first n b deep (side p (kind_at b i) (bit_at b i) 1) next) refl h
-    one true true false (Fault j) l g k z h = no-fault j e s h
-    one true true false Out l g k z h = no-out e s h
-    one true false last w l g k z h = no-fault i e s h
-    one false ok last w l g k z h = no-out e s h
+        let r : ◌≡◌ {A = Subtree} (record { next = suc i; side = no_place }) (record { next = e; side = s }) = cc in
+        leaf (ltb-true _ _ l) g (eqb-true _ _ k) (sym (ap (λ x. x.next) r))
+    one true true false (Ok w) l g k z h =
+        both (ltb-true _ _ l) g (eqb-false _ _ k) w.next w.side z (walk_of first n b deep (side p (kind_at b i) (bit_at b i) 1) w.next) refl h
+    one true true false (Err x) l g k z h = cc
+    one true false last w l g k z h = cc
+    one false ok last w l g k z h = cc
 
   span_of : (deep : ℕ) → Spans deep
   unfolding walk_of
-  span_of zero p i e s h = no-out e s h
+  span_of zero p i e s h = cc
   span_of (suc deep) p i e s h =
       one deep (span_of deep) p i e s (ltb i (count_of b)) (node_ok first n p b i) (eqb (kind_at b i) 0)
       (walk_of first n b deep (side p (kind_at b i) (bit_at b i) 0) (suc i)) refl refl refl refl h
@@ -106,7 +101,7 @@ module _ (first n : ℕ) (b : List ℕ) where
       omega arith
 
   -- a walk goes on
-  pub walk-next : (deep : ℕ) (p : Pattern) (i e s : ℕ) → walk_of first n b deep p i ≡ End e s → i < e
+  pub walk-next : (deep : ℕ) (p : Pattern) (i e s : ℕ) → walk_of first n b deep p i ≡ ends_at e s → i < e
   walk-next deep p i e s h = span-next (span_of deep p i e s h)
 
   behind : (i next : ℕ) → i < no_place → (t : Bool) → eqb (place_at b i) next ≡ t → no_place ≤ cond t no_place i → next ≡ place_at b i
@@ -119,26 +114,26 @@ module _ (first n : ℕ) (b : List ℕ) where
       let x : next ≡ place_at b i = behind i next (omega arith) (eqb (place_at b i) next) refl (omega arith) in
       fork here ok f (rw x at (tree-span few z (omega arith))) (rw x at (tree-span few o (omega arith)))
 
-  good-walk : (w : Subtree) → ended (count_of b) w ≡ Good → w ≡ End (count_of b) no_place
-  good-walk (End next low) h = ends (eqb next (count_of b)) (eqb low no_place) refl refl h
+  good-walk : (w : Result Subtree NoSubtree) → ended (count_of b) w ≡ Ok tt → w ≡ ends_at (count_of b) no_place
+  good-walk (Ok w) h = ends (eqb w.next (count_of b)) (eqb w.side no_place) refl refl h
     where
-      ends : (t u : Bool) → eqb next (count_of b) ≡ t → eqb low no_place ≡ u → cond t (cond u Good (Bad low)) (Bad no_place) ≡ Good
-          → End next low ≡ End (count_of b) no_place
-      ends true true p q e = rw (eqb-true next (count_of b) p, eqb-true low no_place q)
-      ends true false p q e = not_good low e
-      ends false u p q e = not_good no_place e
-  good-walk (Fault k) h = not_good k h
-  good-walk Out h = not_good no_place h
+      ends : (t u : Bool) → eqb w.next (count_of b) ≡ t → eqb w.side no_place ≡ u → ◌≡◌ {A = Result Unit ℕ} (cond t (cond u (Ok tt) (Err w.side)) (Err no_place)) (Ok tt)
+          → ends_at w.next w.side ≡ ends_at (count_of b) no_place
+      ends true true p q e = rw (eqb-true w.next (count_of b) p, eqb-true w.side no_place q)
+      ends true false p q e = cc
+      ends false u p q e = cc
+  good-walk (Err (Fault k)) h = cc
+  good-walk (Err Out) h = cc
 
-  pub good-counted : form_of first n b ≡ Good → counted b ≡ true
+  pub good-counted : form_of first n b ≡ Ok tt → counted b ≡ true
   unfolding form_of
   good-counted h = go (counted b) refl h
     where
-      go : (t : Bool) → counted b ≡ t → cond t (ended (count_of b) (walk_of first n b (count_of b) start 0)) (Bad no_place) ≡ Good → counted b ≡ true
+      go : (t : Bool) → counted b ≡ t → cond t (ended (count_of b) (walk_of first n b (count_of b) start 0)) (Err no_place) ≡ Ok tt → counted b ≡ true
       go true q e = q
-      go false q e = not_good no_place e
+      go false q e = cc
 
-  pub tree_of : form_of first n b ≡ Good → Tree start 0 (count_of b)
+  pub tree_of : form_of first n b ≡ Ok tt → Tree start 0 (count_of b)
   unfolding form_of
   tree_of h =
       let c = good-counted h in

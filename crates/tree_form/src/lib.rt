@@ -1,13 +1,13 @@
 // The form of a decision tree, judged in one pass over its nodes.
 #![tactic(auto)]
 
-ghost use Rattle.std.specs.Prelude.{cond, not, ◌&&◌, ◌≡◌, ℕ, ◌+◌, ◌*◌, ◌<◌, ◌≤◌, min, ltb, eqb, length};
+ghost use Rattle.std.specs.Prelude.{cond, not, ◌&&◌, ◌≡◌, ℕ, ◌+◌, ◌*◌, ◌<◌, ◌≤◌, ltb, eqb, length};
 ghost use Rattle.bits.specs.Bits.{is_set};
 ghost use Rattle.tree_spec.specs.Nodes.{no_place, count_of, kind_at, bit_at, place_at};
-ghost use Rattle.tree_spec.specs.Form.{side, leaf_ok, test_ok, node_ok, closed, walk_of, ended, counted, form_of};
+ghost use Rattle.tree_spec.specs.Form.{side, leaf_ok, test_ok, node_ok, walk_of, ended, counted, form_of};
 
 use format::Pattern;
-use tree_spec::{Form, Subtree};
+use tree_spec::{NoSubtree, Subtree};
 
 // Node i's three parts.
 pub fn kind(tree: &[u8], i: usize) -> u8
@@ -102,12 +102,6 @@ fn node_ok(tree: &[u8], first: usize, n: usize, p: Pattern, i: usize) -> bool
     }
 }
 
-fn smaller(a: usize, b: usize) -> usize
-    ensures { result ≡ min a b }
-{
-    if a < b { a } else { b }
-}
-
 // Node i, where its one side stands elsewhere than behind its zero side.
 fn own_side(place: usize, next: usize, i: usize) -> usize
     ensures { result ≡ cond (eqb place next) no_place i }
@@ -119,50 +113,40 @@ fn own_side(place: usize, next: usize, i: usize) -> usize
     }
 }
 
-// A test's subtree, from its one side.
-fn close(own: usize, low: usize, one: Subtree) -> Subtree
-    ensures { result ≡ closed own low one }
-{
-    match one {
-        Subtree::End { next, side } => {
-            let least = smaller(own, smaller(low, side));
-            Subtree::End { next, side: least }
-        }
-        Subtree::Fault(k) => Subtree::Fault(k),
-        Subtree::Out => Subtree::Out,
-    }
-}
-
 // The subtree from node i on. It goes no deeper than 96 tests, since a bit that is tested twice is a fault.
-fn walk(tree: &[u8], first: usize, n: usize, count: usize, p: Pattern, i: usize) -> Subtree
+fn walk(
+    tree: &[u8],
+    first: usize,
+    n: usize,
+    count: usize,
+    p: Pattern,
+    i: usize,
+) -> Result<Subtree, NoSubtree>
     requires count_value { (count ≡ count_of tree.now) × (2 + 4 * count ≤ length tree.now) × (count ≤ 4095) }
     requires n_bound { first + n ≤ 512 }
     ensures { (deep : ℕ) → count_of tree.now ≤ i + deep → result ≡ walk_of first n tree.now deep p i }
 {
     if count <= i {
-        return Subtree::Out;
+        return Err(NoSubtree::Out);
     }
-    if node_ok(tree, first, n, p, i) {
-        let kind = kind(tree, i);
-        if kind == 0 {
-            return Subtree::End {
-                next: i + 1,
-                side: tree_spec::NO_PLACE,
-            };
-        }
-        let bit = bit(tree, i);
-        let zero = walk(tree, first, n, count, side_of(p, kind, bit, 0), i + 1);
-        match zero {
-            Subtree::End { next, side } => {
-                let one = walk(tree, first, n, count, side_of(p, kind, bit, 1), next);
-                close(own_side(place(tree, i), next, i), side, one)
-            }
-            Subtree::Fault(k) => Subtree::Fault(k),
-            Subtree::Out => Subtree::Out,
-        }
-    } else {
-        Subtree::Fault(i)
+    if !node_ok(tree, first, n, p, i) {
+        return Err(NoSubtree::Fault(i));
     }
+    let kind = kind(tree, i);
+    if kind == 0 {
+        return Ok(Subtree {
+            next: i + 1,
+            side: tree_spec::NO_PLACE,
+        });
+    }
+    let bit = bit(tree, i);
+    let zero = walk(tree, first, n, count, side_of(p, kind, bit, 0), i + 1)?;
+    let one = walk(tree, first, n, count, side_of(p, kind, bit, 1), zero.next)?;
+    let own = own_side(place(tree, i), zero.next, i);
+    Ok(Subtree {
+        next: one.next,
+        side: own.min(zero.side.min(one.side)),
+    })
 }
 
 // Whether the bytes are a count and so many nodes.
@@ -176,41 +160,40 @@ fn count_ok(tree: &[u8]) -> bool
     (1 <= count) & (count <= tree_spec::MOST_NODES) & (tree.len() == 2 + 4 * count)
 }
 
-fn end(count: usize, walked: Subtree) -> Form
+// The form of a tree of `count` nodes that was walked from its first one on.
+fn end(count: usize, walked: Result<Subtree, NoSubtree>) -> Result<(), usize>
     ensures { result ≡ ended count walked }
 {
     match walked {
-        Subtree::End { next, side } => {
-            if next == count {
-                if side == tree_spec::NO_PLACE {
-                    Form::Good
-                } else {
-                    Form::Bad(side)
-                }
+        Ok(whole) => {
+            if whole.next != count {
+                Err(tree_spec::NO_PLACE)
+            } else if whole.side != tree_spec::NO_PLACE {
+                Err(whole.side)
             } else {
-                Form::Bad(tree_spec::NO_PLACE)
+                Ok(())
             }
         }
-        Subtree::Fault(k) => Form::Bad(k),
-        Subtree::Out => Form::Bad(tree_spec::NO_PLACE),
+        Err(NoSubtree::Fault(node)) => Err(node),
+        Err(NoSubtree::Out) => Err(tree_spec::NO_PLACE),
     }
 }
 
-// A tree for the constructors from `first` on, n of them.
-pub fn form(tree: &[u8], first: usize, n: usize) -> Form
+// Whether the bytes are a tree of good form for the constructors from `first` on, n of them; else the first bad node, or
+// NO_PLACE.
+pub fn form(tree: &[u8], first: usize, n: usize) -> Result<(), usize>
     requires { first + n ≤ 512 }
     ensures { result ≡ form_of first n tree.now }
 {
-    if count_ok(tree) {
-        let count = format::word(tree, 0) as usize;
-        let start = Pattern {
-            mask: 0,
-            value: 0,
-            contextmask: 0,
-            contextvalue: 0,
-        };
-        end(count, walk(tree, first, n, count, start, 0))
-    } else {
-        Form::Bad(tree_spec::NO_PLACE)
+    if !count_ok(tree) {
+        return Err(tree_spec::NO_PLACE);
     }
+    let count = format::word(tree, 0) as usize;
+    let start = Pattern {
+        mask: 0,
+        value: 0,
+        contextmask: 0,
+        contextvalue: 0,
+    };
+    end(count, walk(tree, first, n, count, start, 0))
 }

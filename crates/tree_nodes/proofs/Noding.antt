@@ -9,6 +9,7 @@ use borrow.Author.Tests.{lt-ltb, le-ltb}
 use lib.Bits.{bit_or, bit_xor, differ, or_lt, xor_lt}
 use lib.Count.{count_trailing_zeros}
 use lib.Dec.{eqb}
+use Rattle.std.specs.Prelude.{None}
 use Rattle.lists.specs.Below.{any_below}
 use Rattle.lists.proofs.Below.{any_found}
 use Rattle.bits.specs.Bits.{bit, is_set}
@@ -17,7 +18,6 @@ use Rattle.format.specs.declared.Pattern.{Pattern}
 use Rattle.patterns.specs.Relations.{inside}
 use Rattle.choosing_spec.specs.Clashing.{clash_of}
 use Rattle.choosing_spec.specs.ValidPattern.{ValidPattern}
-use Rattle.choosing_spec.specs.declared.Clash.TheVariants.{Clear}
 use Rattle.choosing_theorems.proofs.None.{none-at}
 use Rattle.tree_spec.specs.Nodes.{no_place}
 use Rattle.tree_building_spec.specs.Rule.{masks, kind_of, bit_of, live, wanted, node_of}
@@ -119,7 +119,7 @@ module _ (first : ℕ) (at : ℕ → Pattern) (n : ℕ) (p : Pattern) where
         below r j i (yes d) = wanted-byte j d ∙ no-bit bytes j z
         below r j i (no d) = wanted-context j (omega arith) ∙ r.none (j - 64) (omega arith)
 
-    node-leaf : clash_of at n ≡ Clear → bytes ≡ 0 → context ≡ 0 → Leaf (gathered first at p n).leaf ≡ node_of first at n p
+    node-leaf : clash_of at n ≡ None → bytes ≡ 0 → context ≡ 0 → Leaf (gathered first at p n).leaf ≡ node_of first at n p
     node-leaf clear y z = go (any_below n (live at n p)) refl
       where
         none : NoneWanted at n p
@@ -158,5 +158,5 @@ module _ (first : ℕ) (at : ℕ → Pattern) (n : ℕ) (p : Pattern) where
           positive : {x : ℕ} → (x ≡ 0 → ⊥) → 0 < x
           positive f = omega (arith, f)
 
-      pub leaf-node : clash_of at n ≡ Clear → bytes_left ≡ 0 → context_left ≡ 0 → Leaf l.leaf ≡ node_of first at n p
+      pub leaf-node : clash_of at n ≡ None → bytes_left ≡ 0 → context_left ≡ 0 → Leaf l.leaf ≡ node_of first at n p
       leaf-node clear y z = rw e (node-leaf clear (rw e at y) (rw e at z))

@@ -2,7 +2,6 @@
 #![tactic(auto)]
 
 ghost use Rattle.std.specs.Prelude.{◌≡◌};
-ghost use Rattle.std.specs.Int.Count.{count_trailing_zeros};
 ghost use Rattle.choosing.specs.Patterns.{patterns_in};
 ghost use Rattle.choosing_spec.specs.ValidPattern.{ValidPattern};
 ghost use Rattle.tree_building_spec.specs.Rule.{node_of};
@@ -50,29 +49,13 @@ fn gather(desc: &[u8], constructors: Section, table: Table, p: Pattern) -> Live
         context: 0,
         leaf: tree_spec::NO_PLACE,
     };
-    let mut next = 0;
-    while next < table.count {
-        let j = next;
-        next = j + 1;
+    for j in 0..table.count {
         let q = choosing::pattern_in(desc, constructors, table.first, j);
         if patterns::overlaps(p, q) {
             live = with_live(live, q, table.first + j);
         }
     }
     live
-}
-
-// The lowest set bit of a word that is not 0, and of a context.
-fn lowest(word: u64) -> u8
-    ensures { result ≡ count_trailing_zeros 64 word }
-{
-    u64::trailing_zeros(word) as u8
-}
-
-fn lowest_context(word: u32) -> u8
-    ensures { result ≡ count_trailing_zeros 32 word }
-{
-    u32::trailing_zeros(word) as u8
 }
 
 // A bit that a live pattern masks and that is not on the path is tested, the lowest first. Where there is none, all live patterns hold
@@ -87,14 +70,14 @@ pub fn node_at(desc: &[u8], constructors: Section, table: Table, p: Pattern) -> 
     if bytes != 0 {
         return Node::Test {
             kind: 1,
-            bit: lowest(bytes),
+            bit: bytes.trailing_zeros() as u8,
         };
     }
     let context = (live.context | p.contextmask) ^ p.contextmask;
     if context != 0 {
         return Node::Test {
             kind: 2,
-            bit: lowest_context(context),
+            bit: context.trailing_zeros() as u8,
         };
     }
     Node::Leaf(live.leaf)

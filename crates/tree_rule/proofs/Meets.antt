@@ -6,9 +6,10 @@ use lib.Dec.{eqb}
 use Rattle.bits.specs.Bits.{bit, is_set}
 use Rattle.lists.proofs.Below.{all-at, all_of}
 use Rattle.lists.proofs.Bools.{and_left, and_right, and_both}
+use Rattle.std.specs.Prelude.{Option, Some, None}
 use Rattle.format.specs.declared.Pattern.{Pattern}
 use Rattle.patterns.specs.Relations.{inside_bits, inside, meet_bits, overlap}
-use Rattle.tree_rule.specs.Rule.{refutes}
+use Rattle.tree_rule.specs.Rule.{refutes, refuted}
 
 meet-bits : (n am av bm bv : ℕ) → inside_bits n am av bm bv ≡ true → meet_bits n am av bm bv ≡ true
 unfolding inside_bits meet_bits
@@ -27,7 +28,7 @@ inside-meets a b e =
     and_both _ _ (meet-bits 64 a.mask a.value b.mask b.value (and_left byte context e))
     (meet-bits 32 a.contextmask a.contextvalue b.contextmask b.contextvalue (and_right byte context e))
 
-pub apart : (own none : Bool) (p named q : Pattern) → overlap p q ≡ false → own ≡ refutes own none p named q
+apart : (own none : Bool) (p named q : Pattern) → overlap p q ≡ false → own ≡ refutes own none p named q
 unfolding refutes
 apart true none p named q e = go (inside p q) refl
   where
@@ -35,3 +36,13 @@ apart true none p named q e = go (inside p q) refl
     go true i = absurd (false≢true (sym e ∙ inside-meets p q i))
     go false i = refl
 apart false none p named q e = rw e
+
+pub refuted-apart : (own : Bool) (p : Pattern) (named : Option Pattern) (q : Pattern) → overlap p q ≡ false → own ≡ refuted own p named q
+refuted-apart own p (Some named) q e = apart own false p named q e
+refuted-apart own p None q e = apart own true p q q e
+
+-- a leaf that names q is wrong where the path does not lie inside q
+pub refuted-own : (p : Pattern) (named : Option Pattern) (q : Pattern) → not (inside p q) ≡ refuted true p named q
+unfolding refutes
+refuted-own p (Some named) q = refl
+refuted-own p None q = refl

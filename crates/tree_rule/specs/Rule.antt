@@ -1,5 +1,5 @@
 -- Which leaves are wrong, by a rule on patterns, and an input that proves it. p is the path to the leaf, as a pattern.
-use Rattle.std.specs.Prelude.{ℕ, ◌+◌, ◌-◌, ◌<◌, ◌≤◌, Bool, cond, ◌&&◌, ◌||◌, not, ◌⊎◌, ◌≡◌, eqb}
+use Rattle.std.specs.Prelude.{ℕ, ◌+◌, ◌-◌, ◌<◌, ◌≤◌, Bool, true, false, cond, ◌&&◌, ◌||◌, not, ◌⊎◌, ◌≡◌, eqb, Option, Some, None}
 use Rattle.std.specs.Int.Bits.{bit_and, bit_or, bit_xor}
 use Rattle.format.specs.declared.Pattern.{Pattern}
 use Rattle.patterns.specs.Relations.{inside, overlap}
@@ -15,6 +15,11 @@ Says first n v = (v ≡ no_place) ⊎ ((first ≤ v) × (v < first + n))
 unfoldable pub refutes : Bool → Bool → Pattern → Pattern → Pattern → Bool
 refutes own none p named q =
     cond own (not (inside p q)) (overlap p q && (none || not (inside named q && not (inside q named))))
+
+-- the same with the pattern of what the leaf names, if it names any
+abbrev pub refuted : Bool → Pattern → Option Pattern → Pattern → Bool
+refuted own p (Some named) q = refutes own false p named q
+refuted own p None q = refutes own true p q q
 
 -- record j of the table whose first is constructor `first` shows that a leaf which says v is wrong
 unfoldable pub shows_wrong : ℕ → (ℕ → Pattern) → Pattern → ℕ → ℕ → Bool

@@ -2,14 +2,14 @@
 #![tactic(auto)]
 
 ghost use Rattle.std.specs.Prelude.{◌≡◌};
-ghost use Rattle.tree_rule.specs.Rule.{refutes, filled};
+ghost use Rattle.tree_rule.specs.Rule.{refuted, filled};
 
 use format::Pattern;
 
-// Whether a pattern q of the table shows that a leaf at the end of path p is wrong: own where the leaf names q, none where it
-// says none, named the pattern of what it names. Most patterns are apart from the path, so that is tested first.
-pub fn shows_wrong(own: bool, none: bool, p: Pattern, named: Pattern, q: Pattern) -> bool
-    ensures { result ≡ refutes own none p named q }
+// Whether a pattern q of the table shows that a leaf at the end of path p is wrong: own where the leaf names q, named the pattern of
+// what it names, if it names any. Most patterns are apart from the path, so that is tested first.
+pub fn shows_wrong(own: bool, p: Pattern, named: Option<Pattern>, q: Pattern) -> bool
+    ensures { result ≡ refuted own p named q }
 {
     if !patterns::overlaps(p, q) {
         return own;
@@ -17,10 +17,10 @@ pub fn shows_wrong(own: bool, none: bool, p: Pattern, named: Pattern, q: Pattern
     if own {
         return !patterns::lies_inside(p, q);
     }
-    if none {
-        return true;
+    match named {
+        Some(named) => !(patterns::lies_inside(named, q) & !patterns::lies_inside(q, named)),
+        None => true,
     }
-    !(patterns::lies_inside(named, q) & !patterns::lies_inside(q, named))
 }
 
 // A path's values at its masked bits, and v's at the other bits of m.

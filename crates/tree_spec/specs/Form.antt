@@ -1,13 +1,12 @@
 -- A tree's form, for a table of n records whose first is constructor `first`.
-use Rattle.std.specs.Prelude.{ℕ, zero, suc, ◌+◌, ◌*◌, ◌^◌, min, Bool, cond, ◌&&◌, ◌||◌, not, List, leb, ltb, eqb, length}
+use Rattle.std.specs.Prelude.{ℕ, zero, suc, ◌+◌, ◌*◌, ◌^◌, min, Bool, cond, ◌&&◌, ◌||◌, not, List, leb, ltb, eqb, length, Result, Ok, Err}
 use Rattle.std.specs.Int.Bits.{bit_or}
 use Rattle.bits.specs.Bits.{is_set}
 use Rattle.format.specs.declared.Pattern.{Pattern}
 use Rattle.tree_spec.specs.Nodes.{most_nodes, no_place, count_of, kind_at, bit_at, place_at}
-use Rattle.tree_spec.specs.declared.Form.{Form}
-use Rattle.tree_spec.specs.declared.Form.TheVariants.{Good, Bad}
 use Rattle.tree_spec.specs.declared.Subtree.{Subtree}
-use Rattle.tree_spec.specs.declared.Subtree.TheVariants.{End, Fault, Out}
+use Rattle.tree_spec.specs.declared.NoSubtree.{NoSubtree}
+use Rattle.tree_spec.specs.declared.NoSubtree.TheVariants.{Fault, Out}
 
 -- a path is the pattern that its tests make: the bits tested on it, and the sides taken
 abbrev pub start : Pattern
@@ -35,35 +34,36 @@ unfoldable pub node_ok : ℕ → ℕ → Pattern → List ℕ → ℕ → Bool
 node_ok first n p b i = cond (eqb (kind_at b i) 0) (leaf_ok first n b i) (test_ok p b i)
 
 -- "The zero side is the next node; the place is the one side, which starts where the zero side ends."
-abbrev pub closed : ℕ → ℕ → Subtree → Subtree
-closed own low (End next high) = End next (min own (min low high))
-closed own low (Fault k) = Fault k
-closed own low Out = Out
+abbrev pub closed : ℕ → ℕ → Result Subtree NoSubtree → Result Subtree NoSubtree
+closed own low (Ok one_side) = Ok (record { next = one_side.next; side = min own (min low one_side.side) })
+closed own low (Err e) = Err e
 
-abbrev pub forked : ℕ → ℕ → Subtree → (ℕ → Subtree) → Subtree
-forked i place (End next low) more = closed (cond (eqb place next) no_place i) low (more next)
-forked i place (Fault k) more = Fault k
-forked i place Out more = Out
+abbrev pub forked : ℕ → ℕ → Result Subtree NoSubtree → (ℕ → Result Subtree NoSubtree) → Result Subtree NoSubtree
+forked i place (Ok zero_side) more = closed (cond (eqb place zero_side.next) no_place i) zero_side.side (more zero_side.next)
+forked i place (Err e) more = Err e
 
 -- the subtree from node i on, on path p: its nodes one by one, their one sides apart; no subtree is deeper than there are nodes
-unfoldable pub walk_of : ℕ → ℕ → List ℕ → ℕ → Pattern → ℕ → Subtree
-walk_of first n b zero p i = Out
+unfoldable pub walk_of : ℕ → ℕ → List ℕ → ℕ → Pattern → ℕ → Result Subtree NoSubtree
+walk_of first n b zero p i = Err Out
 walk_of first n b (suc deep) p i =
     let fork =
     forked i (place_at b i) (walk_of first n b deep (side p (kind_at b i) (bit_at b i) 0) (suc i))
     (λ next. walk_of first n b deep (side p (kind_at b i) (bit_at b i) 1) next)
     in
-    cond (ltb i (count_of b)) (cond (node_ok first n p b i) (cond (eqb (kind_at b i) 0) (End (suc i) no_place) fork) (Fault i)) Out
+    cond (ltb i (count_of b))
+    (cond (node_ok first n p b i) (cond (eqb (kind_at b i) 0) (Ok (record { next = suc i; side = no_place })) fork) (Err (Fault i)))
+    (Err Out)
 
--- "nodes that run out or are left over (65,535); the one sides, lowest node first"
-abbrev pub ended : ℕ → Subtree → Form
-ended count (End next low) = cond (eqb next count) (cond (eqb low no_place) Good (Bad low)) (Bad no_place)
-ended count (Fault k) = Bad k
-ended count Out = Bad no_place
+-- a tree's form: good, or its first bad node, or no_place; "nodes that run out or are left over (65,535); the one sides, lowest
+-- node first"
+abbrev pub ended : ℕ → Result Subtree NoSubtree → Result Unit ℕ
+ended count (Ok whole) = cond (eqb whole.next count) (cond (eqb whole.side no_place) (Ok tt) (Err whole.side)) (Err no_place)
+ended count (Err (Fault k)) = Err k
+ended count (Err Out) = Err no_place
 
 -- "the count, or bytes that aren't just its nodes (65,535)"
 abbrev pub counted : List ℕ → Bool
 counted b = leb 2 (length b) && leb 1 (count_of b) && leb (count_of b) most_nodes && eqb (length b) (2 + 4 * count_of b)
 
-unfoldable pub form_of : ℕ → ℕ → List ℕ → Form
-form_of first n b = cond (counted b) (ended (count_of b) (walk_of first n b (count_of b) start 0)) (Bad no_place)
+unfoldable pub form_of : ℕ → ℕ → List ℕ → Result Unit ℕ
+form_of first n b = cond (counted b) (ended (count_of b) (walk_of first n b (count_of b) start 0)) (Err no_place)

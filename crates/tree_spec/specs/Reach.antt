@@ -1,11 +1,11 @@
 -- The leaf that an input reaches, and what proves a leaf wrong.
-use Rattle.std.specs.Prelude.{ℕ, zero, suc, ◌+◌, ◌<◌, ◌≤◌, ◌^◌, Bool, false, cond, not, List, eqb, length, get_or}
+use Rattle.std.specs.Prelude.{ℕ, zero, suc, ◌+◌, ◌<◌, ◌≤◌, ◌^◌, Bool, false, cond, not, List, eqb, length, get_or, Result, Ok, Err}
 use Rattle.bits.specs.Bits.{bit}
 use Rattle.format.specs.declared.Pattern.{Pattern}
 use Rattle.patterns.specs.Matching.{byte_bit}
 use Rattle.choosing_spec.specs.Choosing.{choose}
-use Rattle.choosing_spec.specs.declared.Choice.{Choice}
-use Rattle.choosing_spec.specs.declared.Choice.TheVariants.{Short, NoMatch, Taken, Ambiguous}
+use Rattle.choosing_spec.specs.declared.NotChosen.{NotChosen}
+use Rattle.choosing_spec.specs.declared.NotChosen.TheVariants.{Short, NoMatch, Ambiguous}
 use Rattle.tree_spec.specs.Nodes.{no_place, count_of, kind_at, bit_at, place_at}
 
 -- the bit that node i tests: "Kind 1 tests bit 0 to 63 of the bytes (byte bit/8, bit bit mod 8); kind 2 tests context bit 0 to 31."
@@ -26,11 +26,11 @@ reach_of b s c = reach_from (count_of b) b s c 0
 
 -- a leaf that says v is right for an answer of Choosing: "wrong if it names a constructor that Choosing, in that table, doesn't
 -- take .., or says none and a constructor matches; where Choosing says ambiguous, the leaf reached is wrong whatever it says"
-abbrev pub right : ℕ → ℕ → Choice → Bool
-right first v Short = false
-right first v NoMatch = eqb v no_place
-right first v (Taken j) = eqb v (first + j)
-right first v Ambiguous = false
+abbrev pub right : ℕ → ℕ → Result ℕ NotChosen → Bool
+right first v (Err Short) = false
+right first v (Err NoMatch) = eqb v no_place
+right first v (Ok j) = eqb v (first + j)
+right first v (Err Ambiguous) = false
 
 -- these bytes and this context prove leaf i wrong
 unfoldable pub proves_wrong : ℕ → (ℕ → Pattern) → ℕ → List ℕ → List ℕ → ℕ → ℕ → Bool

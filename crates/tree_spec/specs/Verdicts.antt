@@ -1,10 +1,9 @@
 -- Demand 3: what it says of a tree that it is accepted, or rejected.
-use Rattle.std.specs.Prelude.{ℕ, zero, suc, ◌/◌, ◌%◌, ◌<◌, true, false, List, [], ◌∷◌, ◌≡◌}
+use Rattle.std.specs.Prelude.{ℕ, zero, suc, ◌/◌, ◌%◌, ◌<◌, true, false, List, [], ◌∷◌, ◌≡◌, Option, Some, None}
 use Rattle.format.specs.declared.Pattern.{Pattern}
 use Rattle.tree_spec.specs.Nodes.{kind_at}
 use Rattle.tree_spec.specs.Reach.{reach_of, proves_wrong, Input}
-use Rattle.tree_spec.specs.declared.Verdict.{Verdict}
-use Rattle.tree_spec.specs.declared.Verdict.TheVariants.{Accepted, Rejected}
+use Rattle.tree_spec.specs.declared.WrongLeaf.{WrongLeaf}
 
 -- the first n bytes of a little-endian number
 unfoldable pub bytes_of : ℕ → ℕ → List ℕ
@@ -24,6 +23,7 @@ pub record Rejects (first : ℕ) (at : ℕ → Pattern) (n : ℕ) (b : List ℕ)
   pub wrong : proves_wrong first at n b (bytes_of 8 w) c i ≡ true
   pub earlier : (s : List ℕ) (x : ℕ) → Input s x → reach_of b s x < i → proves_wrong first at n b s x (reach_of b s x) ≡ false
 
-abbrev pub VerdictFor : ℕ → (ℕ → Pattern) → ℕ → List ℕ → Verdict → Type 0
-VerdictFor first at n b Accepted = Accepts first at n b
-VerdictFor first at n b (Rejected i w c) = Rejects first at n b i w c
+-- the check's answer is the first wrong leaf, if there is one
+abbrev pub VerdictFor : ℕ → (ℕ → Pattern) → ℕ → List ℕ → Option WrongLeaf → Type 0
+VerdictFor first at n b None = Accepts first at n b
+VerdictFor first at n b (Some w) = Rejects first at n b w.node w.word w.context

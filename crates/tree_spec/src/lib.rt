@@ -1,32 +1,27 @@
 // What the check of a decision tree goes through and answers. The meaning is in specs/.
 #![tactic(auto)]
 
-// The form of a tree: good, or the first bad node, or NO_PLACE.
+// A subtree, read from its first node: the node behind it and the lowest node in it whose one side stands elsewhere, or
+// NO_PLACE.
 #[derive(Clone, Copy)]
-pub enum Form {
-    Good,
-    Bad(usize),
+pub struct Subtree {
+    pub next: usize,
+    pub side: usize,
 }
 
-// A subtree, read from its first node: the node behind it and the lowest node in it whose one side stands elsewhere, or
-// NO_PLACE; a bad node; or the nodes ran out.
+// Why no subtree stands there: a bad node, or the nodes ran out.
 #[derive(Clone, Copy)]
-pub enum Subtree {
-    End { next: usize, side: usize },
+pub enum NoSubtree {
     Fault(usize),
     Out,
 }
 
-// The check of a tree of good form: accepted, or the first wrong leaf with eight bytes, as a little-endian number, and a context
-// that prove it wrong.
+// The first wrong leaf of a tree of good form, with eight bytes, as a little-endian number, and a context that prove it wrong.
 #[derive(Clone, Copy)]
-pub enum Verdict {
-    Accepted,
-    Rejected {
-        node: usize,
-        word: u64,
-        context: u32,
-    },
+pub struct WrongLeaf {
+    pub node: usize,
+    pub word: u64,
+    pub context: u32,
 }
 
 pub const MOST_NODES: usize = 4095;

@@ -9,6 +9,7 @@ use native.Mathlib.Nat.{zero-div}
 use native.Mathlib.Omega.{arith}
 use borrow.Author.Tests.{eq-eqb, eqb-true}
 use lib.Dec.{eqb, lit<}
+use Rattle.std.specs.Prelude.{Ok}
 use Rattle.bits.specs.Bits.{is_set}
 use Rattle.format.specs.declared.Pattern.{Pattern}
 use Rattle.patterns.specs.Matching.{matches}
@@ -18,7 +19,6 @@ use Rattle.tree_spec.specs.Nodes.{count_of, kind_at, bit_at, place_at}
 use Rattle.tree_spec.specs.Form.{start, side, form_of}
 use Rattle.tree_spec.specs.Reach.{reach_of, proves_wrong, Input}
 use Rattle.tree_spec.specs.Verdicts.{Accepts, Rejects}
-use Rattle.tree_spec.specs.declared.Form.TheVariants.{Good}
 use Rattle.tree_form.proofs.Trees.{Tree, tip, fork, tree_of, leaf-says}
 use Rattle.tree_rule.specs.Rule.{Says, shows_wrong, example_word, example_context}
 use Rattle.tree_rule.proofs.Rule.{good_right, bad-wrong}
@@ -75,7 +75,7 @@ abbrev pub Clear : ℕ → (ℕ → Pattern) → ℕ → List ℕ → ℕ → Ty
 Clear first at n b i = (j : ℕ) → j < n → shows_wrong first at (path_of b i) (place_at b i) j ≡ false
 
 module _ (first : ℕ) (at : ℕ → Pattern) (n : ℕ) (b : List ℕ) (sound : (j : ℕ) → j < n → ValidPattern (at j)) (low : first + n ≤ 512)
-    (good : form_of first n b ≡ Good) where
+    (good : form_of first n b ≡ Ok tt) where
   abbrev tree : Tree first n b start 0 (count_of b)
   tree = tree_of first n b good
 

@@ -6,14 +6,14 @@ ghost use Rattle.format.specs.Numbers.{longest, most_rows};
 ghost use Rattle.fields.specs.Value.{Readable};
 ghost use Rattle.decoding_spec.specs.State.{counted};
 ghost use Rattle.decoding_spec.specs.Walk.{width_of};
-ghost use Rattle.setting.specs.Fixed.{Fixed, setting_in, total_place};
+ghost use Rattle.setting.specs.Fixed.{Fixed, setting_in};
 ghost use Rattle.walk_steps.specs.Scratch.{sized, written};
 ghost use Rattle.walk_steps.specs.Steps.{beyond_places, Ready, Within, closed_as, closed_rows, Showable, ShownSteps, FieldSteps, ComputedSteps, PutsNumber};
 
 use decoding_spec::{Refusal, State};
 use fields::Look;
 use format::Field;
-use setting::FIXED;
+use setting::Prepared;
 
 // A scratch row's numbers: those of a row, and its size. And the scratch buffer's numbers, for all rows.
 pub const SCRATCH_NUMBERS: usize = 5;
@@ -22,26 +22,11 @@ pub const SCRATCH: usize = SCRATCH_NUMBERS * format::ROWS;
 
 const LONGEST: usize = format::LONGEST as usize;
 
-// The state behind a walk, and its length; or the refusal.
+// The state behind a walk, and its length.
 #[derive(Clone, Copy)]
-pub enum Walked {
-    Done { state: State, length: usize },
-    Refused(Refusal),
-}
-
-pub fn wide(x: u8) -> usize
-    ensures { (result ≡ x) × (result < 256) }
-{
-    x as usize
-}
-
-pub fn larger(a: usize, b: usize) -> usize
-    ensures { result ≡ max a b }
-{
-    if a < b {
-        return b;
-    }
-    a
+pub struct Walk {
+    pub state: State,
+    pub length: usize,
 }
 
 pub fn one_more(state: State) -> State
@@ -80,7 +65,7 @@ fn width_of(field: Field) -> usize
     ensures { (result ≡ width_of field) × (result < 256) }
 {
     if field.source == 0 {
-        return wide(field.width);
+        return usize::from(field.width);
     }
     0
 }
@@ -104,48 +89,48 @@ fn put_number(
         let value = fields::value(field, code, context);
         let bits = field.high + 1 - field.low;
         let shown = fields::number(signed, bits, value);
-        put_row(rows, used, 1, wide(index), place, shown, 1);
+        put_row(rows, used, 1, usize::from(index), place, shown, 1);
     }
 }
 
 // A field's value as its look shows it.
 fn show(
     desc: &[u8],
-    fixed: &[usize; FIXED],
+    fixed: &Prepared,
     field: Field,
     index: u8,
     code: &[u8],
     place: usize,
     rows: &mut [i64],
     state: State,
-) -> Walked
+) -> Result<Walk, Refusal>
     requires { Fixed desc.now fixed.now × Showable (setting_in desc.now fixed.now) field code.now place state }
     ensures { ShownSteps desc.now fixed.now code.now place state rows.old result rows.new field index }
 {
-    let width = width_of(field);
+    let length = width_of(field);
     let used = state.used;
     let context = state.context;
-    let look = fields::look_of(field.look);
+    let look = Look::from(field.look);
     match look {
         Look::Number { signed, base: _ } => {
             put_number(field, signed, index, code, context, place, rows, used);
-            Walked::Done {
+            Ok(Walk {
                 state: one_more(state),
-                length: width,
-            }
+                length,
+            })
         }
         Look::Name => {
             let value = fields::value(field, code, context);
-            let name = (field.first as usize) + (value as usize);
+            let name = usize::from(field.first) + (value as usize);
             let found = setting::name(desc, fixed, name);
             if found.length == 0 {
-                return Walked::Refused(Refusal::Hole(place as u16));
+                return Err(Refusal::Hole(place as u16));
             }
-            put_row(rows, used, 2, wide(index), place, name as i64, 1);
-            Walked::Done {
+            put_row(rows, used, 2, usize::from(index), place, name as i64, 1);
+            Ok(Walk {
                 state: one_more(state),
-                length: width,
-            }
+                length,
+            })
         }
     }
 }
@@ -153,92 +138,88 @@ fn show(
 // The field at a place, with the code from there on.
 pub fn field_from(
     desc: &[u8],
-    fixed: &[usize; FIXED],
+    fixed: &Prepared,
     index: u8,
     code: &[u8],
     place: usize,
     rows: &mut [i64],
     state: State,
-) -> Walked
+) -> Result<Walk, Refusal>
     requires { Ready (index < length (setting_in desc.now fixed.now).description.fields) desc.now fixed.now code.now place state }
     ensures { FieldSteps desc.now fixed.now code.now place state rows.old result rows.new index }
 {
     if format::ROWS <= state.used {
-        return Walked::Refused(Refusal::TooManyRows);
+        return Err(Refusal::TooManyRows);
     }
-    let field = setting::field(desc, fixed, wide(index));
+    let field = setting::field(desc, fixed, usize::from(index));
     let end = place + width_of(field);
     if (LONGEST < place) | (LONGEST < end) {
-        return Walked::Refused(Refusal::TooFar(place as u16));
+        return Err(Refusal::TooFar(place as u16));
     }
-    if fixed[setting::TOTAL] < end {
-        return Walked::Refused(Refusal::Short(place as u16));
+    if fixed.total < end {
+        return Err(Refusal::Short(place as u16));
     }
     show(desc, fixed, field, index, code, place, rows, state)
 }
 
 // A computed operand: it has no bytes, and its value is not known before the root's end.
 pub fn computed_from(
-    fixed: &[usize; FIXED],
+    fixed: &Prepared,
     index: u8,
     place: usize,
     rows: &mut [i64],
     state: State,
-) -> Walked
+) -> Result<Walk, Refusal>
     requires { place < beyond_places }
-    ensures { ComputedSteps (get_or fixed.now total_place 0) index place state rows.old result rows.new }
+    ensures { ComputedSteps fixed.now.total index place state rows.old result rows.new }
 {
     if format::ROWS <= state.used {
-        return Walked::Refused(Refusal::TooManyRows);
+        return Err(Refusal::TooManyRows);
     }
     if LONGEST < place {
-        return Walked::Refused(Refusal::TooFar(place as u16));
+        return Err(Refusal::TooFar(place as u16));
     }
-    if fixed[setting::TOTAL] < place {
-        return Walked::Refused(Refusal::Short(place as u16));
+    if fixed.total < place {
+        return Err(Refusal::Short(place as u16));
     }
-    put_row(rows, state.used, 3, wide(index), place, 0, 1);
-    Walked::Done {
+    put_row(rows, state.used, 3, usize::from(index), place, 0, 1);
+    Ok(Walk {
         state: one_more(state),
         length: 0,
-    }
+    })
 }
 
 // A constructor after its operands: its length, and its row before theirs.
 pub fn close(
-    fixed: &[usize; FIXED],
+    fixed: &Prepared,
     number: usize,
     minimum: usize,
     at: usize,
     rows: &mut [i64],
     used: usize,
-    walked: Walked,
-) -> Walked
+    walked: Result<Walk, Refusal>,
+) -> Result<Walk, Refusal>
     requires number_bound { (number < 65536) × (minimum < 256) × (at ≤ longest) × (used < most_rows) }
     requires within { Within at (used + 1) walked }
-    ensures value { result ≡ closed_as (get_or fixed.now total_place 0) number minimum at walked }
+    ensures value { result ≡ closed_as fixed.now.total number minimum at walked }
     ensures rows_after { rows.new ≡ closed_rows number at used result rows.old }
 {
-    match walked {
-        Walked::Refused(refusal) => Walked::Refused(refusal),
-        Walked::Done { state, length: far } => {
-            let length = larger(minimum, far);
-            let end = at + length;
-            if LONGEST < end {
-                return Walked::Refused(Refusal::TooFar(at as u16));
-            }
-            if fixed[setting::TOTAL] < end {
-                return Walked::Refused(Refusal::Short(at as u16));
-            }
-            let last = length as i64;
-            let size = state.used - used;
-            put_row(rows, used, 0, number, at, last, size);
-            let mut then = state;
-            then.taken = number;
-            Walked::Done {
-                state: then,
-                length,
-            }
-        }
+    let Walk { state, length: far } = walked?;
+    let length = minimum.max(far);
+    let own_end = at + length;
+    if LONGEST < own_end {
+        return Err(Refusal::TooFar(at as u16));
     }
+    if fixed.total < own_end {
+        return Err(Refusal::Short(at as u16));
+    }
+    let last = length as i64;
+    let size = state.used - used;
+    put_row(rows, used, 0, number, at, last, size);
+    let mut then = state;
+    then.taken = number;
+    Ok(Walk {
+        state: then,
+        length,
+    })
 }

@@ -6,6 +6,7 @@ use mathlib.Core.Path.{◌≡◌, refl, ap, ◌∙◌}
 use native.Mathlib.Omega.{arith}
 use borrow.Author.Tests.{ltb-true, ltb-false, lt-ltb, le-ltb}
 use lib.Dec.{ltb}
+use Rattle.std.specs.Prelude.{Ok, Err}
 use lib.IntN.{ℤ, pos}
 use lib.ListN.{length, take, drop, length-drop}
 use lib.Seq.{take_all}
@@ -17,9 +18,8 @@ use Rattle.decoding_spec.specs.declared.State.{State}
 use Rattle.decoding_spec.specs.declared.Refusal.{Refusal}
 use Rattle.decoding_spec.specs.declared.Refusal.TheVariants.{Short, TooFar}
 use Rattle.walk_steps.specs.Scratch.{SizedRow, sized, sized_of, sized_of_all, written}
-use Rattle.walk_steps.specs.Steps.{StepsTo, Within, closed_as, closed_rows}
-use Rattle.walk_steps.specs.declared.Walked.{Walked}
-use Rattle.walk_steps.specs.declared.Walked.TheVariants.{Done, Refused}
+use Rattle.walk_steps.specs.Steps.{Walked, arrived, StepsTo, Within, closed_as, closed_rows}
+use Rattle.walk_steps.specs.declared.Walk.{Walk}
 use Rattle.walk_steps.proofs.Writing.{written-before}
 use Rattle.walking.specs.Walks.{WalksTo, Walks, Finished}
 
@@ -28,11 +28,11 @@ pub code-from : (s : List ℕ) (at : ℕ) → take (length s - at) (drop at s) �
 code-from s at = take_all (length s - at) (drop at s) (omega (arith, length-drop at s))
 
 module _ {A : Type 0} (rows : A → List SizedRow) (result : Result A) (at used : ℕ) (old new : List ℤ) where
-  pub refuses : (r : Refusal) → result ≡ refused r → WalksTo rows result (Refused r) at used old new
+  pub refuses : (r : Refusal) → result ≡ refused r → WalksTo rows result (Err r) at used old new
   refuses r e = rw e (record { answer = refl; put = tt })
 
   pub finishes : (a : A) (l : ℕ) (st : State) → result ≡ done a l st → Finished rows a l st at used old new
-      → WalksTo rows result (Done st l) at used old new
+      → WalksTo rows result (arrived st l) at used old new
   finishes a l st e f = rw e (record { answer = refl; put = f })
 
   -- what a done walk has found
@@ -42,17 +42,18 @@ module _ {A : Type 0} (rows : A → List SizedRow) (result : Result A) (at used 
     pub finished : Finished rows found l st at used old new
 
 module _ {A : Type 0} (rows : A → List SizedRow) (at used : ℕ) (old new : List ℤ) where
-  pub was-refused : (result : Result A) (w : Walked) (r : Refusal) → WalksTo rows result w at used old new → w ≡ Refused r → result ≡ refused r
-  was-refused (done a l st) w r h e = let z : ◌≡◌ {A = ℕ} 0 1 = cc h.answer in absurd (omega arith)
+  pub was-refused : (result : Result A) (w : Walked) (r : Refusal) → WalksTo rows result w at used old new → w ≡ Err r → result ≡ refused r
+  was-refused (done a l st) w r h e = cc h.answer
   was-refused (refused s) w r h e = let z : s ≡ r = cc h.answer in rw z
 
-  pub was-done : (result : Result A) (w : Walked) (l : ℕ) (st : State) → WalksTo rows result w at used old new → w ≡ Done st l
+  pub was-done : (result : Result A) (w : Walked) (l : ℕ) (st : State) → WalksTo rows result w at used old new → w ≡ arrived st l
       → WasDone rows result at used old new l st
   was-done (done a m x) w l st h e =
-      let p : x ≡ st = cc h.answer in
-      let q : m ≡ l = cc h.answer in
+      let same : ◌≡◌ {A = Walk} (record { state = x; length = m }) (record { state = st; length = l }) = cc h.answer in
+      let p : x ≡ st = ap (λ (v : Walk). v.state) same in
+      let q : m ≡ l = ap (λ (v : Walk). v.length) same in
       record { found = a; is = rw (p, q); finished = rw (p, q) at h.put }
-  was-done (refused s) w l st h e = let z : ◌≡◌ {A = ℕ} 0 1 = cc h.answer in absurd (omega arith)
+  was-done (refused s) w l st h e = cc h.answer
 
   pub to-within : (result : Result A) (w : Walked) → WalksTo rows result w at used old new → Within at used w
   to-within (done a l st) w h = rw h.answer (omega (arith, h.put.count), h.put.few, h.put.near)
@@ -76,25 +77,25 @@ Closes total n minimum at used walked mid r new =
 
 -- after a constructor's operands: "6, 2"
 module _ (total n minimum at used : ℕ) (walked : Walked) (mid new : List ℤ) where
-  closes-refused : (r : Refusal) → walked ≡ Refused r → Closes total n minimum at used walked mid (Refused r) new
+  closes-refused : (r : Refusal) → walked ≡ Err r → Closes total n minimum at used walked mid (Err r) new
   closes-refused r e g t result old h = refuses _ _ _ _ _ _ _ (rw (was-refused sized_of_all at (used + 1) old mid result walked r h e))
 
-  module _ (st : State) (far size : ℕ) (e : walked ≡ Done st far) (is : size ≡ max minimum far) where
-    closes-far : longest < at + size → Closes total n minimum at used walked mid (Refused (TooFar at)) new
+  module _ (st : State) (far size : ℕ) (e : walked ≡ arrived st far) (is : size ≡ max minimum far) where
+    closes-far : longest < at + size → Closes total n minimum at used walked mid (Err (TooFar at)) new
     unfolding closed
     closes-far k g t result old h =
         let w = was-done sized_of_all at (used + 1) old mid result walked far st h e in
         refuses _ _ _ _ _ _ _ (rw (w.is, ← is, lt-ltb longest (at + size) k))
 
     module _ (near : at + size ≤ longest) where
-      closes-short : total < at + size → Closes total n minimum at used walked mid (Refused (Short at)) new
+      closes-short : total < at + size → Closes total n minimum at used walked mid (Err (Short at)) new
       unfolding closed
       closes-short k g t result old h =
           let w = was-done sized_of_all at (used + 1) old mid result walked far st h e in
           refuses _ _ _ _ _ _ _ (rw (w.is, ← is, le-ltb longest (at + size) near, t, lt-ltb total (at + size) k))
 
       closes-done : at + size ≤ total → new ≡ written used (sized 0 n at (pos size) (st.used - used) ∷ []) mid
-          → Closes total n minimum at used walked mid (Done (closed_by n st) size) new
+          → Closes total n minimum at used walked mid (arrived (closed_by n st) size) new
       unfolding closed sized_of
       closes-done k p g t result old h =
           let w = was-done sized_of_all at (used + 1) old mid result walked far st h e in
@@ -115,17 +116,17 @@ module _ (total n minimum at used : ℕ) (walked : Walked) (mid new : List ℤ) 
 
 pub closes : (total n minimum at used : ℕ) (walked : Walked) (mid : List ℤ)
     → Closes total n minimum at used walked mid (closed_as total n minimum at walked) (closed_rows n at used (closed_as total n minimum at walked) mid)
-closes total n minimum at used (Refused r) mid = closes-refused total n minimum at used _ mid mid r refl
-closes total n minimum at used (Done st far) mid = go (ltb longest (at + l)) refl (ltb total (at + l)) refl
+closes total n minimum at used (Err r) mid = closes-refused total n minimum at used _ mid mid r refl
+closes total n minimum at used (Ok w) mid = go (ltb longest (at + l)) refl (ltb total (at + l)) refl
   where
     l : ℕ
-    l = max minimum far
+    l = max minimum w.length
 
     answer : Bool → Bool → Walked
-    answer a b = cond a (Refused (TooFar at)) (cond b (Refused (Short at)) (Done (closed_by n st) l))
+    answer a b = cond a (Err (TooFar at)) (cond b (Err (Short at)) (arrived (closed_by n w.state) l))
 
     go : (a : Bool) → ltb longest (at + l) ≡ a → (b : Bool) → ltb total (at + l) ≡ b
-        → Closes total n minimum at used (Done st far) mid (answer a b) (closed_rows n at used (answer a b) mid)
-    go true e b f = closes-far total n minimum at used _ mid mid st far l refl refl (ltb-true longest (at + l) e)
-    go false e true f = closes-short total n minimum at used _ mid mid st far l refl refl (ltb-false longest (at + l) e) (ltb-true total (at + l) f)
-    go false e false f = closes-done total n minimum at used _ mid _ st far l refl refl (ltb-false longest (at + l) e) (ltb-false total (at + l) f) refl
+        → Closes total n minimum at used (Ok w) mid (answer a b) (closed_rows n at used (answer a b) mid)
+    go true e b f = closes-far total n minimum at used _ mid mid w.state w.length l refl refl (ltb-true longest (at + l) e)
+    go false e true f = closes-short total n minimum at used _ mid mid w.state w.length l refl refl (ltb-false longest (at + l) e) (ltb-true total (at + l) f)
+    go false e false f = closes-done total n minimum at used _ mid _ w.state w.length l refl refl (ltb-false longest (at + l) e) (ltb-false total (at + l) f) refl

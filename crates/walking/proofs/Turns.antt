@@ -5,6 +5,7 @@ use mathlib.Core.Path.{◌≡◌, refl, sym, ap, subst, ◌∙◌}
 use native.Mathlib.Decide.{ℕ_discrete, dec_lt}
 use native.Mathlib.Omega.{arith}
 use borrow.Author.Tests.{lt-ltb, le-ltb, le-leb, lt-leb, eq-eqb, ne_eqb}
+use Rattle.std.specs.Prelude.{Ok, Err}
 use lib.IntN.{ℤ}
 use lib.ListN.{length, get_or, take, drop, set, replicate, length-append, length-drop, length-set, get_or-replicate, get_or-eq_default, drop_of_length-le}
 use lib.Seq.{get_or-set_same, get_or-set_other}
@@ -13,8 +14,9 @@ use Rattle.format.specs.Description.{no_field, no_constructor, no_operand}
 use Rattle.format.specs.Tables.{root_of}
 use Rattle.format.specs.declared.Constructor.{Constructor}
 use Rattle.format.specs.declared.Operand.{Operand}
-use Rattle.choosing_spec.specs.declared.Choice.{Choice}
-use Rattle.choosing_spec.specs.declared.Choice.TheVariants as choice
+use Rattle.std.specs.Prelude as std
+use Rattle.choosing_spec.specs.declared.NotChosen.{NotChosen}
+use Rattle.choosing_spec.specs.declared.NotChosen.TheVariants as choice
 use Rattle.decoding_spec.specs.State.{Setting, starting, counted}
 use Rattle.decoding_spec.specs.Tree.{Node, Nodes, none, more}
 use Rattle.decoding_spec.specs.Walk.{Result, done, refused, and_then, choice_in, start_of, field_from, computed_from, operand_from, operands_from, constructor_from, taking, table_from, walk_from, Walker, reject_empty, walked_from}
@@ -22,11 +24,8 @@ use Rattle.decoding_spec.specs.declared.State.{State}
 use Rattle.decoding_spec.specs.declared.Refusal.{Refusal}
 use Rattle.decoding_spec.specs.declared.Refusal.TheVariants.{Short, NoMatch, Ambiguous, TooFar, TooManyRows, RootLengthZero}
 use Rattle.walk_steps.specs.Scratch.{sized_of, sized_of_all, written}
-use Rattle.walk_steps.specs.Steps.{StepsTo, closed_as, closed_rows}
+use Rattle.walk_steps.specs.Steps.{Walked, arrived, StepsTo, closed_as, closed_rows}
 use Rattle.walking.specs.Walks.{WalksTo, Walks, Finished, chosen_as, root_chosen}
-use Rattle.walking.specs.declared.Chosen.TheVariants as chosen
-use Rattle.walk_steps.specs.declared.Walked.{Walked}
-use Rattle.walk_steps.specs.declared.Walked.TheVariants.{Done, Refused}
 use Rattle.walking.proofs.Answers.{code-from, refuses, finishes, was-refused, was-done, within, WasDone, steps-walk, closes}
 use Rattle.walk_steps.proofs.Writing.{written_behind, written_none}
 
@@ -66,7 +65,6 @@ module _ (g : Setting) (first : ℕ) (s : List ℕ) (at count : ℕ) where
     pub rest : (depth : ℕ) → most_rows < st₀.used + depth → (w : Walked) (new : List ℤ)
         → WalksTo sized_of_all (left depth o ends far st) w at st.used rows new → WalksTo sized_of_all (all depth st₀) w at st₀.used rows₀ new
     pub most : count ≤ operands_each
-    pub done : o ≤ count
     pub since : st₀.used ≤ st.used
     pub few : st.used ≤ most_rows
     pub near : at + far ≤ longest
@@ -80,7 +78,6 @@ module _ (g : Setting) (first : ℕ) (s : List ℕ) (at count : ℕ) where
       record {
         rest = λ depth k w new h. let z : count - 0 ≡ count = omega arith in rw z at h;
         most = m;
-        done = omega arith;
         since = omega arith;
         few = u;
         near = omega arith;
@@ -107,22 +104,21 @@ module _ (g : Setting) (first : ℕ) (s : List ℕ) (at count : ℕ) where
       (x : Operand) (start : ℕ) (walked : Walked) (h : o < count) (e : x ≡ get_or g.description.operands (first + o) no_operand)
       (b : start ≡ start_of ends x)
       (walks : Walks sized_of (λ depth. operand_from g (walk_from g depth) x s at start st) walked (at + start) st.used st.used rows rows') where
-    pub refused-turn : (r : Refusal) → walked ≡ Refused r → Walks sized_of_all (λ depth. all depth st₀) (Refused r) at st₀.used st₀.used rows₀ rows'
+    pub refused-turn : (r : Refusal) → walked ≡ Err r → Walks sized_of_all (λ depth. all depth st₀) (Err r) at st₀.used st₀.used rows₀ rows'
     refused-turn r q =
         record {
           to = λ depth k.
               let z = was-refused sized_of (at + start) st.used rows rows' _ walked r (walks.to depth (omega (arith, turn.since))) q in
-              turn.rest depth k (Refused r) rows' (refuses _ _ _ _ _ _ _ (step depth o ends far st x start h e b ∙ rw z));
+              turn.rest depth k (Err r) rows' (refuses _ _ _ _ _ _ _ (step depth o ends far st x start h e b ∙ rw z));
         }
 
-    pub next-turn : (st' : State) (l : ℕ) → walked ≡ Done st' l → length rows' ≡ length rows → LoopState st₀ rows₀ rows' (set ends (o + 1) (start + l)) (max far (start + l)) st' (o + 1)
+    pub next-turn : (st' : State) (l : ℕ) → walked ≡ arrived st' l → length rows' ≡ length rows → LoopState st₀ rows₀ rows' (set ends (o + 1) (start + l)) (max far (start + l)) st' (o + 1)
     next-turn st' l q kept =
         let bounds : (st.used ≤ st'.used) × (st'.used ≤ most_rows) × (at + start + l ≤ longest) =
         rw q at (within sized_of (at + start) st.used rows rows' _ walked st.used walks) in
         record {
           rest = λ depth k w new t. turn.rest depth k w new (one depth (omega (arith, turn.since)) w new t);
           most = turn.most;
-          done = omega arith;
           since = omega (arith, turn.since, bounds.0);
           few = bounds.1;
           near = omega (arith, turn.near, bounds.2);
@@ -148,13 +144,13 @@ module _ (g : Setting) (first : ℕ) (s : List ℕ) (at count : ℕ) where
         go k (no p) m = rw (get_or-set_other ends (o + 1) k (start + l) 0 p) (turn.nears k)
 
   pub last_turn : (st₀ : State) (rows₀ rows : List ℤ) (ends : List ℕ) (far : ℕ) (st : State) (o : ℕ) → LoopState st₀ rows₀ rows ends far st o → count ≤ o
-      → Walks sized_of_all (λ depth. all depth st₀) (Done st far) at st₀.used st₀.used rows₀ rows
+      → Walks sized_of_all (λ depth. all depth st₀) (arrived st far) at st₀.used st₀.used rows₀ rows
   unfolding operands_from sized_of_all
   last_turn st₀ rows₀ rows ends far st o turn h =
       record {
         to = λ depth k.
             let z : count - o ≡ 0 = omega arith in
-            turn.rest depth k (Done st far) rows
+            turn.rest depth k (arrived st far) rows
             (finishes sized_of_all _ at st.used rows rows none far st (rw z)
             (record { count = omega arith; few = turn.few; near = turn.near; held = written_none st.used rows turn.few }));
       }
@@ -207,53 +203,53 @@ constructor-closes g n k k' s at st st' minimum total walked r old mid new e m q
     record { to = λ depth room. rw (← e, ← m, b, a) (closes total n minimum at st.used walked mid g t _ old (subst (λ (u : State). WalksTo sized_of_all (operands_from g (walk_from g depth) k.operands.first s at k.operands.count 0 (replicate (operands_each + 1) 0) 0 u) walked at u.used old mid) q (h.to depth (rw q (omega arith))))) }
 
 -- what a choice comes to
-pub was-taken : (at t n : ℕ) (q : Choice) → chosen_as at t q ≡ chosen.Number n → q ≡ choice.Taken n
-was-taken at t n choice.Short e = let z : ◌≡◌ {A = ℕ} 0 1 = cc e in absurd (omega arith)
-was-taken at t n choice.NoMatch e = let z : ◌≡◌ {A = ℕ} 0 1 = cc e in absurd (omega arith)
-was-taken at t n (choice.Taken k) e = let z : k ≡ n = cc e in rw z
-was-taken at t n choice.Ambiguous e = let z : ◌≡◌ {A = ℕ} 0 1 = cc e in absurd (omega arith)
+pub was-taken : (at t n : ℕ) (q : std.Result ℕ NotChosen) → chosen_as at t q ≡ Ok n → q ≡ Ok n
+was-taken at t n (Err choice.Short) e = cc e
+was-taken at t n (Err choice.NoMatch) e = cc e
+was-taken at t n (Ok k) e = let z : k ≡ n = cc e in rw z
+was-taken at t n (Err choice.Ambiguous) e = cc e
 
-unchosen : (g : Setting) (t : ℕ) (s : List ℕ) (at : ℕ) (st : State) (r : Refusal) (w : Walker) (q : Choice) → chosen_as at t q ≡ chosen.Refused r
+unchosen : (g : Setting) (t : ℕ) (s : List ℕ) (at : ℕ) (st : State) (r : Refusal) (w : Walker) (q : std.Result ℕ NotChosen) → chosen_as at t q ≡ Err r
     → taking g w t s at st q ≡ refused r
-unchosen g t s at st r w choice.Short e = let z : Short at ≡ r = cc e in rw z
-unchosen g t s at st r w choice.NoMatch e = let z : NoMatch at t ≡ r = cc e in rw z
-unchosen g t s at st r w (choice.Taken k) e = let z : ◌≡◌ {A = ℕ} 0 1 = cc e in absurd (omega arith)
-unchosen g t s at st r w choice.Ambiguous e = let z : Ambiguous at t ≡ r = cc e in rw z
+unchosen g t s at st r w (Err choice.Short) e = let z : Short at ≡ r = cc e in rw z
+unchosen g t s at st r w (Err choice.NoMatch) e = let z : NoMatch at t ≡ r = cc e in rw z
+unchosen g t s at st r w (Ok k) e = cc e
+unchosen g t s at st r w (Err choice.Ambiguous) e = let z : Ambiguous at t ≡ r = cc e in rw z
 
 -- a table: "7, 6, 2, 3, 4"
 module _ (g : Setting) (t : ℕ) (s : List ℕ) (at : ℕ) (st : State) (old new : List ℤ) where
   abbrev Comes : Walked → Type 0
   Comes r = Walks sized_of (λ depth. walk_from g depth t s at st) r at st.used st.used old new
 
-  pub table-full : most_rows ≤ st.used → Comes (Refused TooManyRows)
+  pub table-full : most_rows ≤ st.used → Comes (Err TooManyRows)
   unfolding walk_from table_from
   table-full h = record { to = go }
     where
-      go : (depth : ℕ) → most_rows < st.used + depth → WalksTo sized_of (walk_from g depth t s at st) (Refused TooManyRows) at st.used old new
+      go : (depth : ℕ) → most_rows < st.used + depth → WalksTo sized_of (walk_from g depth t s at st) (Err TooManyRows) at st.used old new
       go zero k = refuses _ _ _ _ _ _ _ refl
       go (suc depth) k = refuses _ _ _ _ _ _ _ (rw (le-leb most_rows st.used h))
 
   module _ (room : st.used < most_rows) where
-    pub table-far : longest < at → Comes (Refused (TooFar at))
+    pub table-far : longest < at → Comes (Err (TooFar at))
     unfolding walk_from table_from
     table-far h = record { to = go }
       where
-        go : (depth : ℕ) → most_rows < st.used + depth → WalksTo sized_of (walk_from g depth t s at st) (Refused (TooFar at)) at st.used old new
+        go : (depth : ℕ) → most_rows < st.used + depth → WalksTo sized_of (walk_from g depth t s at st) (Err (TooFar at)) at st.used old new
         go zero k = absurd (omega arith)
         go (suc depth) k = refuses _ _ _ _ _ _ _ (rw (lt-leb most_rows st.used room, lt-ltb longest at h))
 
     module _ (near : at ≤ longest) where
-      pub table-refused : (r : Refusal) (q : Choice) → q ≡ choice_in g.description t s st.context → chosen_as at t q ≡ chosen.Refused r
-          → Comes (Refused r)
+      pub table-refused : (r : Refusal) (q : std.Result ℕ NotChosen) → q ≡ choice_in g.description t s st.context → chosen_as at t q ≡ Err r
+          → Comes (Err r)
       unfolding walk_from table_from
       table-refused r q e f = record { to = go }
         where
-          go : (depth : ℕ) → most_rows < st.used + depth → WalksTo sized_of (walk_from g depth t s at st) (Refused r) at st.used old new
+          go : (depth : ℕ) → most_rows < st.used + depth → WalksTo sized_of (walk_from g depth t s at st) (Err r) at st.used old new
           go zero k = absurd (omega arith)
           go (suc depth) k =
               refuses _ _ _ _ _ _ _ (rw (lt-leb most_rows st.used room, le-ltb longest at near, ← e) (unchosen g t s at st r (walk_from g depth) q f))
 
-      pub table_taken : (n : ℕ) (r : Walked) (q : Choice) → q ≡ choice_in g.description t s st.context → chosen_as at t q ≡ chosen.Number n
+      pub table_taken : (n : ℕ) (r : Walked) (q : std.Result ℕ NotChosen) → q ≡ choice_in g.description t s st.context → chosen_as at t q ≡ Ok n
           → Walks sized_of (λ depth. constructor_from g (walk_from g depth) n (get_or g.description.constructors n no_constructor) s at st) r at (st.used + 1) st.used old new
           → Comes r
       unfolding walk_from table_from
@@ -270,32 +266,32 @@ module _ (g : Setting) (c : ℕ) (s : List ℕ) (w : Walked) (old new : List ℤ
   root : WalksTo sized_of (walk_from g (suc most_rows) (root_of g.description) s 0 (starting c)) w 0 0 old new
   root = walks.to (suc most_rows) (omega arith)
 
-  pub root-refused : (r : Refusal) → w ≡ Refused r → WalksTo sized_of (walked_from g c s) (Refused r) 0 0 old new
+  pub root-refused : (r : Refusal) → w ≡ Err r → WalksTo sized_of (walked_from g c s) (Err r) 0 0 old new
   unfolding walked_from
   root-refused r q = refuses _ _ _ _ _ _ _ (ap reject_empty (was-refused sized_of 0 0 old new _ w r root q))
 
-  module _ (l : ℕ) (st : State) (q : w ≡ Done st l) where
+  module _ (l : ℕ) (st : State) (q : w ≡ arrived st l) where
     was : WasDone sized_of (walk_from g (suc most_rows) (root_of g.description) s 0 (starting c)) 0 0 old new l st
     was = was-done sized_of 0 0 old new _ w l st root q
 
-    pub root-empty : l ≡ 0 → WalksTo sized_of (walked_from g c s) (Refused RootLengthZero) 0 0 old new
+    pub root-empty : l ≡ 0 → WalksTo sized_of (walked_from g c s) (Err RootLengthZero) 0 0 old new
     unfolding walked_from
     root-empty z = refuses _ _ _ _ _ _ _ (ap reject_empty was.is ∙ rw (eq-eqb l 0 z))
 
-    pub root-done : (l ≡ 0 → ⊥) → WalksTo sized_of (walked_from g c s) (Done st l) 0 0 old new
+    pub root-done : (l ≡ 0 → ⊥) → WalksTo sized_of (walked_from g c s) (arrived st l) 0 0 old new
     unfolding walked_from
     root-done z = finishes sized_of _ 0 0 old new was.found l st (ap reject_empty was.is ∙ rw (ne_eqb l 0 z)) was.finished
 
 -- the root's choice
 module _ (g : Setting) (c : ℕ) (s : List ℕ) where
   -- refused, before a row was written
-  pub root-unchosen : (old : List ℤ) (r : Refusal) → root_chosen g.description c s ≡ chosen.Refused r
-      → WalksTo sized_of (walked_from g c s) (Refused r) 0 0 old old
+  pub root-unchosen : (old : List ℤ) (r : Refusal) → root_chosen g.description c s ≡ Err r
+      → WalksTo sized_of (walked_from g c s) (Err r) 0 0 old old
   root-unchosen old r e =
       root-refused g c s _ old old (table-refused g _ s 0 (starting c) old old (omega arith) (omega arith) r _ refl e) r refl
 
   -- taken
-  pub root-taken : (n : ℕ) (r : Walked) (old new : List ℤ) → root_chosen g.description c s ≡ chosen.Number n
+  pub root-taken : (n : ℕ) (r : Walked) (old new : List ℤ) → root_chosen g.description c s ≡ Ok n
       → Walks sized_of (λ depth. constructor_from g (walk_from g depth) n (get_or g.description.constructors n no_constructor) s 0 (starting c)) r 0 1 0 old new
       → Walks sized_of (λ depth. walk_from g depth (root_of g.description) s 0 (starting c)) r 0 0 0 old new
   root-taken n r old new e h = table_taken g _ s 0 (starting c) old new (omega arith) (omega arith) n r _ refl e h

@@ -1,17 +1,17 @@
 -- "Below zero the bit operators read endless two's complement; a right shift rounds down": the operators bit by bit, for every bit.
-use Prim.Native.Nat.{ℕ, zero, suc, ◌+◌, ◌-◌, ◌*◌, ◌/◌, ◌%◌, ◌^◌, ◌<◌, min, max}
-use mathlib.Core.Bool.{Bool, true, false, not, ◌&&◌, ◌||◌, beq, false≢true}
+use Prim.Native.Nat.{ℕ, zero, suc, ◌+◌, ◌-◌, ◌*◌, ◌/◌, ◌%◌, ◌^◌, ◌<◌, ◌≤◌, min, max}
+use mathlib.Core.Bool.{Bool, true, false, cond, not, ◌&&◌, ◌||◌, beq, false≢true}
 use mathlib.Core.Path.{◌≡◌, refl, sym, ap}
 use native.Mathlib.Nat.{add_comm, mod-lt, div-add-mod', div-eq_of_lt}
 use native.Mathlib.Omega.{arith}
 use lib.Bits.{bit_and, bit_xor, differ, and_le_l, xor_add_and}
-use lib.Dec.{eqb}
-use lib.IntN.{ℤ, pos, negsuc, neg_ℤ, ◌+ℤ◌, ◌*ℤ◌}
+use borrow.Author.Tests.{ltb-true, ltb-false}
+use lib.Dec.{eqb, ltb}
+use lib.IntN.{ℤ, pos, negsuc, sub_ℕ, neg_ℤ, ◌+ℤ◌, ◌*ℤ◌}
 use lib.Pow.{pow_pos, pow_mono, shr-shr}
 use Rattle.bits.specs.Bits.{bit, is_set}
 use Rattle.bits.proofs.Digits.{bit-small, either, bit-and, bit-or, bit-xor}
 use Rattle.bits.proofs.Words.{same_bits}
-use Rattle.whole_numbers.proofs.Sums.{split-sub}
 use Rattle.whole_numbers.specs.Operators.{bit_z, without, and_z, or_z, xor_z, right_z}
 
 -- a statement about two bits, tried on the four pairs
@@ -111,6 +111,14 @@ pub record Rounded (z q : ℤ) (m : ℕ) : Type 0 where
   pub rest : ℕ
   pub small : rest < m
   pub is : z ≡ q *ℤ pos m +ℤ pos rest
+
+-- a difference of two naturals, by its sign
+split-sub : (P : ℤ → Type 0) (a b : ℕ) → (a < b → P (negsuc (b - suc a))) → (b ≤ a → P (pos (a - b))) → P (sub_ℕ a b)
+split-sub P a b f g = go (ltb a b) refl
+  where
+    go : (t : Bool) → ltb a b ≡ t → P (cond t (negsuc (b - suc a)) (pos (a - b)))
+    go true e = f (ltb-true a b e)
+    go false e = g (ltb-false a b e)
 
 raised : (n r x : ℕ) → x ≡ suc n + r → neg_ℤ (pos x) +ℤ pos r ≡ negsuc n
 raised n r zero e = absurd (omega arith)

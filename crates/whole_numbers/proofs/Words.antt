@@ -1,7 +1,7 @@
 -- The machine's words: and, or, exclusive or and shifts of the 64 bits, and what they make of the numbers.
 use Prim.Native.Nat.{ℕ, zero, suc, ◌+◌, ◌-◌, ◌*◌, ◌/◌, ◌%◌, ◌^◌, ◌<◌, ◌≤◌}
 use mathlib.Core.Bool.{Bool, true, ◌||◌}
-use mathlib.Core.Path.{◌≡◌, sym, ap, ◌∙◌}
+use mathlib.Core.Path.{◌≡◌, refl, sym, ap, ◌∙◌}
 use native.Mathlib.Nat.{mod-eq_of_lt, add-mul-mod_self_left, mul-le-mul_right, lt_of_mul-lt-mul_right, div-lt_iff_lt-mul, div-le_self}
 use native.Mathlib.Omega.{arith}
 use borrow.Author.Tests.{eq-eqb, ne_eqb, eqb-true, lt-ltb, ltb-true, le-leb, leb-true}
@@ -17,7 +17,6 @@ use Rattle.lists.proofs.Bools.{same, or_no}
 use Rattle.whole_numbers.specs.Range.{inside}
 use Rattle.whole_numbers.specs.Operators.{without, and_z, or_z, xor_z, left_z, right_z}
 use Rattle.whole_numbers.proofs.Kept.{back, inside-mag}
-use Rattle.whole_numbers.proofs.Products.{below}
 
 -- a number's bits, those of b and those not of b
 and-not : (n a b : ℕ) → a < 2 ^ n → b < 2 ^ n → bit_and a (2 ^ n - suc b) + bit_and a b ≡ a
@@ -72,17 +71,17 @@ or_word (pos a) (negsuc b) p q = rw (or-mixed a b p q) (to_z-neg w64 (without b 
 or_word (negsuc a) (pos b) p q = rw (or_comm (2 ^ 64 - suc a) b, or-mixed b a q p) (to_z-neg w64 (without a b) (omega arith))
 or_word (negsuc a) (negsuc b) p q = rw (or-below a b p q) (to_z-neg w64 (bit_and a b) (omega (arith, and_le_l a b)))
 
-pub xor-word : (a b : ℤ) → mag a < 2 ^ 63 → mag b < 2 ^ 63 → to_z w64 (bit_xor (of_z w64 a) (of_z w64 b)) ≡ xor_z a b
+pub xor_word : (a b : ℤ) → mag a < 2 ^ 63 → mag b < 2 ^ 63 → to_z w64 (bit_xor (of_z w64 a) (of_z w64 b)) ≡ xor_z a b
 unfolding xor_z
-xor-word (pos a) (pos b) p q = to_z_pos w64 (xor_lt 63 a b p q)
-xor-word (pos a) (negsuc b) p q = rw (xor-mixed a b p q) (to_z-neg w64 (bit_xor a b) (xor_lt 63 a b p q))
-xor-word (negsuc a) (pos b) p q =
+xor_word (pos a) (pos b) p q = to_z_pos w64 (xor_lt 63 a b p q)
+xor_word (pos a) (negsuc b) p q = rw (xor-mixed a b p q) (to_z-neg w64 (bit_xor a b) (xor_lt 63 a b p q))
+xor_word (negsuc a) (pos b) p q =
     rw (xor_comm (2 ^ 64 - suc a) b, xor-mixed b a q p, xor_comm b a) (to_z-neg w64 (bit_xor a b) (xor_lt 63 a b p q))
-xor-word (negsuc a) (negsuc b) p q = rw (xor_below a b p q) (to_z_pos w64 (xor_lt 63 a b p q))
+xor_word (negsuc a) (negsuc b) p q = rw (xor_below a b p q) (to_z_pos w64 (xor_lt 63 a b p q))
 
-pub right-word : (z : ℤ) (k : ℕ) → mag z < 2 ^ 63 → to_z w64 (of_z w64 (shr_z z (2 ^ k))) ≡ right_z z k
+pub right_word : (z : ℤ) (k : ℕ) → mag z < 2 ^ 63 → to_z w64 (of_z w64 (shr_z z (2 ^ k))) ≡ right_z z k
 unfolding right_z
-right-word z k h = back (shr_z z (2 ^ k)) (omega (arith, mag_shr z (2 ^ k)))
+right_word z k h = back (shr_z z (2 ^ k)) (omega (arith, mag_shr z (2 ^ k)))
 
 -- a left shift: with j + k = 63, no bits leave at the top exactly where the result is in range
 module _ (n j k : ℕ) (s : j + k ≡ 63) where
@@ -113,6 +112,12 @@ module _ (n j k : ℕ) (s : j + k ≡ 63) where
       same (eqb (n / 2 ^ j) 0) (leb (suc n * 2 ^ k) (2 ^ 63))
       (λ e. le-leb (suc n * 2 ^ k) (2 ^ 63) (top-none (eqb-true (n / 2 ^ j) 0 e)))
       (λ e. eq-eqb (n / 2 ^ j) 0 (none-top (omega (arith, leb-true (suc n * 2 ^ k) (2 ^ 63) e, pow_pos k))))
+
+-- the negation of a natural
+below : (x : ℕ) → leb x (2 ^ 63) ≡ inside (neg_ℤ (pos x))
+unfolding inside
+below zero = refl
+below (suc x) = refl
 
 -- the machine's test of a word: no bit is set, or every bit
 abbrev pub alike : ℕ → Bool

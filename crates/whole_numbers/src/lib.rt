@@ -1,103 +1,45 @@
-// Exact arithmetic on signed 64-bit numbers: the whole number that comes out, or that it lies outside.
+// Exact arithmetic on signed 64-bit numbers: the whole number that comes out, or `None` where it lies outside.
 #![tactic(auto)]
 
-ghost use Rattle.std.specs.Prelude.{◌≡◌, ◌<◌, ◌+ℤ◌, ◌-ℤ◌, ◌*ℤ◌, nat_abs};
-ghost use Rattle.whole_numbers.specs.Range.{inside, kept};
+ghost use Rattle.std.specs.Prelude.{◌≡◌, ◌<◌, ◌+ℤ◌, ◌-ℤ◌, ◌*ℤ◌};
+ghost use Rattle.whole_numbers.specs.Range.{kept};
 ghost use Rattle.whole_numbers.specs.Operators.{and_z, or_z, xor_z, left_z, right_z};
 
-// The signed 64-bit numbers lie between these.
-const LEAST: i64 = -9223372036854775808;
-
-const MOST: i64 = 9223372036854775807;
-
-// A whole number of signed 64 bits, or that it is outside them.
-#[derive(Clone, Copy)]
-pub enum Whole {
-    Value(i64),
-    Outside,
-}
-
-fn sum_inside(a: i64, b: i64) -> bool
-    ensures { result ≡ inside (a +ℤ b) }
-{
-    if b < 0 {
-        return LEAST - b <= a;
-    }
-    a <= MOST - b
-}
-
-pub fn plus(a: i64, b: i64) -> Whole
+#[tactic(auto, using(crate::proofs::Kept::checked))]
+pub fn plus(a: i64, b: i64) -> Option<i64>
     ensures { result ≡ kept (a +ℤ b) }
 {
-    if sum_inside(a, b) {
-        return Whole::Value(a + b);
-    }
-    Whole::Outside
+    a.checked_add(b)
 }
 
-fn difference_inside(a: i64, b: i64) -> bool
-    ensures { result ≡ inside (a -ℤ b) }
-{
-    if b < 0 {
-        return a <= MOST + b;
-    }
-    LEAST + b <= a
-}
-
-pub fn minus(a: i64, b: i64) -> Whole
+pub fn minus(a: i64, b: i64) -> Option<i64>
     ensures { result ≡ kept (a -ℤ b) }
 {
-    if difference_inside(a, b) {
-        return Whole::Value(a - b);
-    }
-    Whole::Outside
+    a.checked_sub(b)
 }
 
-// The distance from zero. Below zero it is one more than the bits turned round.
-fn magnitude(value: i64) -> u64
-    ensures { result ≡ nat_abs value }
-{
-    if value < 0 {
-        return (!value) as u64 + 1;
-    }
-    value as u64
-}
-
-fn product_inside(a: i64, b: i64) -> bool
-    ensures { result ≡ inside (a *ℤ b) }
-{
-    let m = magnitude(a);
-    let n = magnitude(b);
-    if n == 0 {
-        return true;
-    }
-    if (a < 0) == (b < 0) {
-        return m <= 9223372036854775807 / n;
-    }
-    m <= 9223372036854775808 / n
-}
-
-pub fn times(a: i64, b: i64) -> Whole
+#[tactic(auto, using(crate::proofs::Kept::checked))]
+pub fn times(a: i64, b: i64) -> Option<i64>
     ensures { result ≡ kept (a *ℤ b) }
 {
-    if product_inside(a, b) {
-        return Whole::Value(a * b);
-    }
-    Whole::Outside
+    a.checked_mul(b)
 }
 
+#[tactic(auto, using(crate::proofs::Words::and_word))]
 pub fn and(a: i64, b: i64) -> i64
     ensures { result ≡ and_z a b }
 {
     a & b
 }
 
+#[tactic(auto, using(crate::proofs::Words::or_word))]
 pub fn or(a: i64, b: i64) -> i64
     ensures { result ≡ or_z a b }
 {
     a | b
 }
 
+#[tactic(auto, using(crate::proofs::Words::xor_word))]
 pub fn xor(a: i64, b: i64) -> i64
     ensures { result ≡ xor_z a b }
 {
@@ -105,17 +47,18 @@ pub fn xor(a: i64, b: i64) -> i64
 }
 
 // Nothing is lost where the bits that leave at the top, and the new top bit, are all the sign.
-pub fn left(a: i64, k: u8) -> Whole
+pub fn left(a: i64, k: u8) -> Option<i64>
     requires { k < 64 }
     ensures { result ≡ kept (left_z a k) }
 {
     let top = a >> (63 - k);
     if (top == 0) | (top == -1) {
-        return Whole::Value(a << k);
+        return Some(a << k);
     }
-    Whole::Outside
+    None
 }
 
+#[tactic(auto, using(crate::proofs::Words::right_word))]
 pub fn right(a: i64, k: u8) -> i64
     requires { k < 64 }
     ensures { result ≡ right_z a k }

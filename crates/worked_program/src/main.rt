@@ -4,10 +4,10 @@
 
 ghost use Rattle.std.specs.Prelude.{◌≡◌, length};
 
-use acceptance::{Acceptance, Rejection};
-use sweep::{End, Swept};
-use text_decoding::Texted;
-use tree_check::Answer;
+use acceptance::Rejection;
+use sweep::{End, SweepError};
+use text_decoding::TextError;
+use tree_check::TreeError;
 
 // The file descriptor of standard output.
 const STDOUT: i32 = 1;
@@ -41,17 +41,16 @@ fn number(n: usize) {
 }
 
 fn rejected(rejection: Rejection) {
-    number(acceptance::number_of(rejection) as usize);
-    number(acceptance::first_value(rejection));
-    number(acceptance::second_value(rejection));
+    number(rejection.answer_number() as usize);
+    number(rejection.first_value());
+    number(rejection.second_value());
 }
 
 fn judge(text: &[u8], description: &[u8]) {
     line(text);
-    let acceptance = acceptance::accept(description);
-    match acceptance {
-        Acceptance::Accepted(_) => number(0),
-        Acceptance::Rejected(rejection) => rejected(rejection),
+    match acceptance::accept(description) {
+        Ok(_) => number(0),
+        Err(rejection) => rejected(rejection),
     }
     line(b"\n");
 }
@@ -59,24 +58,23 @@ fn judge(text: &[u8], description: &[u8]) {
 fn examine(text: &[u8], tree: &[u8]) {
     line(text);
     let s = S;
-    let answer = tree_check::tree_check(&s, 1, tree);
-    match answer {
-        Answer::Accepted => {
+    match tree_check::tree_check(&s, 1, tree) {
+        Ok(None) => {
             number(0);
             number(0);
         }
-        Answer::WrongLeaf { node, word, .. } => {
+        Ok(Some(leaf)) => {
             number(0);
             number(1);
-            number(node);
-            number((word & 255) as usize);
+            number(leaf.node);
+            number((leaf.word & 255) as usize);
         }
-        Answer::Rejected(rejection) => rejected(rejection),
-        Answer::NoTable(t) => {
+        Err(TreeError::Rejected(rejection)) => rejected(rejection),
+        Err(TreeError::NoTable(t)) => {
             number(12);
             number(t as usize);
         }
-        Answer::BadTree(node) => {
+        Err(TreeError::BadTree(node)) => {
             number(11);
             number(node);
         }
@@ -144,19 +142,18 @@ fn read(name: &[u8], code: &[u8]) {
     line(name);
     let s = S;
     let mut text = [0u8; 64];
-    let texted = text_decoding::decode_text(&s, 0, 0, code, &mut text);
-    match texted {
-        Texted::Done(count) => {
+    match text_decoding::decode_text(&s, 0, 0, code, &mut text) {
+        Ok(count) => {
             number(0);
             line(b" ");
             if count <= 64 {
                 line(&text[..count]);
             }
         }
-        Texted::Rejected(rejection) => rejected(rejection),
-        Texted::Refused(_) => line(b" refused"),
-        Texted::TextTooLong => number(10),
-        Texted::NoRoom => number(9),
+        Err(TextError::Rejected(rejection)) => rejected(rejection),
+        Err(TextError::Refused(_)) => line(b" refused"),
+        Err(TextError::TooLong) => number(10),
+        Err(TextError::NoRoom) => number(9),
     }
     line(b"\n");
 }
@@ -176,19 +173,14 @@ fn sweep_of(name: &[u8], address: u32, alignment: u32, room: usize) {
     let code = [0x13u8, 0x30, 0x1f, 0x25];
     let mut rows = [0i64; 32];
     if room <= 32 {
-        let swept = sweep::sweep(&s, 0, address, alignment, &code, &mut rows[..room]);
-        match swept {
-            Swept::Ended {
-                why,
-                rows: written,
-                next,
-            } => {
-                why_ended(why);
-                number(written);
-                number(next);
+        match sweep::sweep(&s, 0, address, alignment, &code, &mut rows[..room]) {
+            Ok(swept) => {
+                why_ended(swept.why);
+                number(swept.rows);
+                number(swept.next);
             }
-            Swept::Rejected(rejection) => rejected(rejection),
-            Swept::NoAlignment(n) => {
+            Err(SweepError::Rejected(rejection)) => rejected(rejection),
+            Err(SweepError::NoAlignment(n)) => {
                 number(12);
                 number(n as usize);
             }

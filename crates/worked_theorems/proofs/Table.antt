@@ -3,6 +3,7 @@ use Prim.Native.Nat.{ℕ, ◌<◌}
 use native.Mathlib.Omega.{arith}
 use lib.Dec.{lit<, lit≤}
 use mathlib.Core.Path.{◌≡◌, refl}
+use Rattle.std.proofs.Common.{Some, None}
 use Rattle.lists.specs.Below.{all_below, any_below, first_below}
 use Rattle.lists.specs.Tab.{tab_from}
 use Rattle.bits.specs.Bits.{ones_of}
@@ -28,7 +29,6 @@ use Rattle.choosing_spec.specs.ValidPattern.{ValidPattern}
 use Rattle.tree_spec.specs.Nodes.{kind_at, bit_at, place_at}
 use Rattle.tree_spec.specs.Form.{start, leaf_ok, node_ok, walk_of, form_of}
 use Rattle.tree_spec.specs.Verdicts.{Accepts, Rejects}
-use Rattle.tree_spec.specs.declared.Verdict.TheVariants as verdict
 use Rattle.tree_rule.specs.Rule.{refutes, shows_wrong}
 use Rattle.tree_theorems.specs.Path.{path_from, path_of}
 use Rattle.tree_theorems.proofs.Sides.{sound-start}
@@ -90,6 +90,6 @@ unfolding holds cases all_hold same asks clashes bytes rows two three halves cho
 cases-hold =
     record {
       computed = refl;
-      right = (verdict.Accepted, refl, leaf-zero _ refl);
-      wrong = (verdict.Rejected 0 0 0, refl, leaf-none _ refl);
+      right = (None, refl, leaf-zero _ refl);
+      wrong = (Some (record { node = 0; word = 0; context = 0 }), refl, leaf-none _ refl);
     }

@@ -1,6 +1,6 @@
 -- The cases of document 01 that are marked with a star, and some of document 02, as one table: what the definitions give, and what
 -- the documents say.
-use Rattle.std.specs.Prelude.{ℕ, ◌*◌, Bool, true, false, ◌&&◌, List, [], ◌∷◌, ◌++◌, ◌≡◌, eqb, ℤ, pos, negsuc, nat_abs, length, get_or, replicate, take}
+use Rattle.std.specs.Prelude.{ℕ, ◌*◌, Bool, true, false, ◌&&◌, List, [], ◌∷◌, ◌++◌, ◌≡◌, eqb, ℤ, pos, negsuc, nat_abs, length, get_or, replicate, take, Some, None, Ok}
 use Rattle.format.specs.Example.{S}
 use Rattle.format.specs.declared.Pattern.{Pattern}
 use Rattle.choosing_spec.specs.Choosing.{choose, choice_number, choice_values}
@@ -18,7 +18,6 @@ use Rattle.tree_building.specs.Building as building
 use Rattle.tree_building.specs.Building.{build_of, build_after}
 use Rattle.worked_theorems.specs.Branches.{B}
 use Rattle.tree_check.specs.Entry.{Answers}
-use Rattle.tree_check.specs.declared.Answer.TheVariants.{Accepted, WrongLeaf}
 
 pub record Case : Type 0 where
   pub given : List ℕ
@@ -236,5 +235,5 @@ leaf_none = 1 ∷ 0 ∷ 0 ∷ 0 ∷ 0xff ∷ 0xff ∷ []
 -- the one claim: every case holds, and "table 0, one leaf 0: accepted. One leaf none: node 0 wrong."
 pub record Starred : Type 0 where
   pub computed : holds ≡ true
-  pub right : Answers S 0 leaf_zero Accepted
-  pub wrong : Answers S 0 leaf_none (WrongLeaf 0 0 0)
+  pub right : Answers S 0 leaf_zero (Ok None)
+  pub wrong : Answers S 0 leaf_none (Ok (Some (record { node = 0; word = 0; context = 0 })))

@@ -38,7 +38,7 @@ fn base(word: &str) -> &str {
 /// Where the names that a file uses come from: each name, and each name that stands for a whole file.
 #[derive(Default)]
 struct Uses {
-    names: BTreeMap<String, File>,
+    names: BTreeMap<String, (File, String)>,
     files: BTreeMap<String, File>,
 }
 
@@ -71,7 +71,7 @@ impl Uses {
             Ok(name) => drop(self.files.insert(name.to_string(), file)),
             Err(names) => self
                 .names
-                .extend(words(names).map(|n| (n.to_string(), file.clone()))),
+                .extend(entries(names).map(|(name, own)| (name, (file.clone(), own)))),
         }
     }
 
@@ -81,9 +81,7 @@ impl Uses {
         if let (Some(file), Some(name)) = (self.files.get(first), word.split('.').nth(1)) {
             return Some((file.clone(), name.to_string()));
         }
-        self.names
-            .get(first)
-            .map(|f| (f.clone(), first.to_string()))
+        self.names.get(first).cloned()
     }
 }
 
@@ -93,6 +91,15 @@ struct Definitions {
     words: BTreeMap<String, BTreeSet<String>>,
     uses: Uses,
     lines: usize,
+}
+
+/// What a list in braces brings: each name, and the one that it has in its own file (`A as B` brings A as B).
+fn entries(names: &str) -> impl Iterator<Item = (String, String)> + '_ {
+    names.split([',', '{', '}']).filter_map(|entry| {
+        let own = words(entry).next()?;
+        let name = words(entry).last()?;
+        Some((name.to_string(), own.to_string()))
+    })
 }
 
 fn words(line: &str) -> impl Iterator<Item = &str> {

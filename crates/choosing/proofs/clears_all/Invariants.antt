@@ -3,13 +3,8 @@ use Rattle.choosing.specs.Patterns.{patterns_in}
 use Rattle.lists.specs.Below.{all_below}
 use mathlib.Core.Path.{◌≡◌}
 use mathlib.Core.Bool.{true}
-use Prim.Native.Nat.{◌≤◌, ◌-◌}
 use Rattle.choosing.proofs.clears_all.Given as goal
 
 abbrev pub invariant-loop-j : goal.invariant-loop-j
 invariant-loop-j l =
-    (l.j ≤ l.table.count)
-    × (all_below l.j (clears (patterns_in l.desc l.constructors l.table) (word_match (patterns_in l.desc l.constructors l.table) l.input) l.t) ≡ true)
-
-abbrev pub decreases-loop-j : goal.decreases-loop-j
-decreases-loop-j l = l.table.count - l.j
+    all_below l.j (clears (patterns_in l.desc l.constructors l.table) (word_match (patterns_in l.desc l.constructors l.table) l.input) l.t) ≡ true

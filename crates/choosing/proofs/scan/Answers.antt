@@ -1,12 +1,12 @@
 use Rattle.format.specs.declared.Pattern.{Pattern}
 use Rattle.choosing.proofs.Keeping.{is-match, is-short, is_none}
-use Rattle.choosing.proofs.Keeping.{kept-none, kept-skip, kept-with_match, none_more, skipped}
+use Rattle.choosing.proofs.Keeping.{kept-skip, kept-with_match, none_more, skipped}
 use Rattle.choosing.specs.Scan.{word_short, word_match, ScanState}
 use Rattle.choosing.specs.Patterns.{patterns_in}
 use Rattle.lists.proofs.Below.{any_none, any_at}
 use Rattle.lists.specs.Below.{any_below}
 use native.Mathlib.Omega.{arith}
-use mathlib.Core.Path.{◌≡◌, sym, ◌∙◌}
+use mathlib.Core.Path.{◌≡◌, refl, sym, ◌∙◌}
 use mathlib.Core.Bool.{false}
 use Prim.Native.Nat.{ℕ}
 use Rattle.choosing.proofs.scan.Goals.{After-skip-j, Start}
@@ -24,29 +24,10 @@ behind c =
     skipped (rows c.before.before.before.before.before.before) c.args.input c.args.table.count c.loop-next.next c.skip-j.result c.loop-next.best c.skip-j.ensures c.loop-next.invariant.1 c.loop-next.invariant.2
 
 pub loop-next-init : goal.loop-next-init
-loop-next-init c = (omega arith, any_none _, kept-none _ _ _)
-
-pub skip-j-requires : goal.skip-j-requires
-skip-j-requires c =
-    record { inside = c.requires.inside; count_bound = c.requires.count_bound; from_le_count = omega arith }
+loop-next-init c = (omega arith, any_none _, any_none _)
 
 pub returns-then-j-table : goal.returns-then-j-table
 returns-then-j-table c = rw c.if-j-table.true at (behind (goal.at.returns-then-j-table c).After-skip-j)
-
-pub overflow_add-next : goal.overflow_add-next
-overflow_add-next c = omega (arith, c.skip-j.ensures.within)
-
-pub pattern_in-p-requires : goal.pattern_in-p-requires
-pattern_in-p-requires c = record { inside = c.requires.inside; j_bound = omega (arith, c.skip-j.ensures.within) }
-
-pub with_match-best-requires : goal.with_match-best-requires
-with_match-best-requires c =
-    let known = (behind (goal.at.with_match-best-requires c).After-skip-j).1 in
-    record { inside = c.requires.inside; at_bound = λ f. omega (arith, (known.best f).0, c.skip-j.ensures.within); p_value = c.pattern_in-p.ensures }
-
-pub loop-next-smaller-then-whole : goal.loop-next-smaller-then-whole
-loop-next-smaller-then-whole c =
-    omega (arith, c.skip-j.ensures.since, c.skip-j.ensures.within)
 
 pub loop-next-preserved-then-whole : goal.loop-next-preserved-then-whole
 loop-next-preserved-then-whole c =
@@ -55,18 +36,16 @@ loop-next-preserved-then-whole c =
     let t = is-match (rows (goal.at.loop-next-preserved-then-whole c).Start) c.args.input j c.pattern_in-p.result c.pattern_in-p.ensures (sym c.agrees.ensures ∙ c.if-agrees.true) (sym c.whole.ensures ∙ c.if-whole.true) in (
       omega (arith, c.skip-j.ensures.within),
       none_more _ j known.0 t.0,
-      rw c.with_match-best.ensures (kept-with_match _ _ _ j c.loop-next.best t.1 known.1 (omega (arith, c.skip-j.ensures.within))),
+      rw c.with_match.ensures (kept-with_match _ _ _ j t.1 (omega (arith, c.skip-j.ensures.within)) c.loop-next.best known.1),
     )
 
 pub returns-else-whole : goal.returns-else-whole
 returns-else-whole c =
-    let j = c.skip-j.result in
-    any_at _ _ j (omega (arith, c.skip-j.ensures.within))
-    (is-short (rows (goal.at.returns-else-whole c).Start) c.args.input j c.pattern_in-p.result c.pattern_in-p.ensures (sym c.agrees.ensures ∙ c.if-agrees.true) (sym c.whole.ensures ∙ c.if-whole.false))
-
-pub loop-next-smaller : goal.loop-next-smaller
-loop-next-smaller c =
-    omega (arith, c.skip-j.ensures.since, c.skip-j.ensures.within)
+    let j = c.skip-j.result in (
+      refl,
+      any_at _ _ j (omega (arith, c.skip-j.ensures.within))
+          (is-short (rows (goal.at.returns-else-whole c).Start) c.args.input j c.pattern_in-p.result c.pattern_in-p.ensures (sym c.agrees.ensures ∙ c.if-agrees.true) (sym c.whole.ensures ∙ c.if-whole.false)),
+    )
 
 pub loop-next-preserved : goal.loop-next-preserved
 loop-next-preserved c =
@@ -77,8 +56,3 @@ loop-next-preserved c =
       none_more _ j known.0 t.0,
       kept-skip _ _ _ j c.loop-next.best t.1 known.1,
     )
-
-pub returns : goal.returns
-returns c =
-    let s : c.loop-next.next ≡ c.args.table.count = omega arith in
-    (rw s at c.loop-next.invariant.1, rw s at c.loop-next.invariant.2)

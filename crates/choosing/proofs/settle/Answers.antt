@@ -1,26 +1,26 @@
 use Rattle.choosing.proofs.Keeping.{clears-inmost, inmost-clears}
+use Rattle.choosing.proofs.settle.Goals.{else-best-via-then-best+else-not-clears_all, else-best-via-else-best}
+use Rattle.lists.proofs.Below.{any_at}
 use mathlib.Core.Path.{sym, ◌∙◌}
 use mathlib.Core.Bool.{false≢true}
 use Rattle.choosing.proofs.settle.Goals as goal
 
 pub clears_all-requires : goal.clears_all-requires
 clears_all-requires c =
-    record { inside = c.requires.inside; count_bound = c.requires.count_bound; t_lt_count = (c.requires.passed.best c.if-best.true).0 }
+    let k = rw c.in-Some.is at c.requires.passed in
+    record { inside = c.requires.inside; count_bound = c.requires.count_bound; t_lt_count = k.within }
 
-pub returns-then-clears_all : goal.returns-then-clears_all
-returns-then-clears_all c =
-    let k = c.requires.passed in
-    let b = k.best c.if-best.true in
-    clears-inmost _ _ _ _ b.0 b.1 (sym c.clears_all.ensures ∙ c.if-clears_all.true)
-
-pub returns-then-best-2 : goal.returns-then-best-2
-returns-then-best-2 c =
-    let k = c.requires.passed in (
-      sym k.some ∙ c.if-best.true,
-      λ t m.
-          let h = (k.held t m.within m).1 in
-          false≢true (sym c.if-clears_all.false ∙ (c.clears_all.ensures ∙ inmost-clears _ _ _ _ (rw (← h) at m))),
+pub returns-then-not-clears_all : goal.returns-then-not-clears_all
+returns-then-not-clears_all c =
+    let k = rw c.in-Some.is at c.requires.passed in (
+      any_at _ _ c.in-Some.best.at k.within k.hits,
+      λ t m. false≢true (sym c.if-not-clears_all.true ∙ (c.clears_all.ensures ∙ inmost-clears _ _ _ _ (rw (← k.held t m.within m) at m))),
     )
 
-pub returns-then-best : goal.returns-then-best
-returns-then-best c = c.requires.passed.sure c.if-best.true c.if-best-2.false
+pub returns : goal.returns
+returns c =
+    let k = rw c.in-Some.is at c.requires.passed in
+    elim c.else-best.branch [
+      | else-best-via-then-best+else-not-clears_all w ↦ clears-inmost _ _ _ _ k.within k.hits (sym w.clears_all.ensures ∙ w.if-not-clears_all.false)
+      | else-best-via-else-best w ↦ k.sure w.if-best.false
+    ]

@@ -15,4 +15,4 @@ pub returns : goal.returns
 returns c =
     clash-crossing _ _ _ _ _ _ c.requires.a_value c.requires.b_value c.requires.b_value_2 (sym c.same.ensures ∙ c.if-same.false)
     (rw (c.lies_inside.ensures, c.lies_inside-2.ensures) at c.if-lies_inside.false)
-    c.has_third-third.result (rw c.joined-p.ensures at c.has_third-third.ensures)
+    c.has_third.result (rw c.joined-p.ensures at c.has_third.ensures)

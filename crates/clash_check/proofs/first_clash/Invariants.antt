@@ -4,12 +4,8 @@ use Rattle.format.specs.Description.{description}
 use Rattle.lists.specs.Below.{all_below}
 use mathlib.Core.Path.{◌≡◌}
 use mathlib.Core.Bool.{true}
-use Prim.Native.Nat.{◌≤◌, ◌-◌}
 use Rattle.clash_check.proofs.first_clash.Given as goal
 
 abbrev pub invariant-loop-i : goal.invariant-loop-i
 invariant-loop-i l =
-    (l.i ≤ l.table.count) × (all_below l.i (quiet (pattern_from (description l.desc l.layout) l.table.first) l.table.count) ≡ true)
-
-abbrev pub decreases-loop-i : goal.decreases-loop-i
-decreases-loop-i l = l.table.count - l.i
+    all_below l.i (quiet (pattern_from (description l.desc l.layout) l.table.first) l.table.count) ≡ true

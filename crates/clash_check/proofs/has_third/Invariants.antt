@@ -6,7 +6,7 @@ use Rattle.lists.specs.Below.{any_below}
 use lib.Dec.{eqb}
 use mathlib.Core.Path.{◌≡◌}
 use mathlib.Core.Bool.{Bool, false, not, ◌&&◌}
-use Prim.Native.Nat.{ℕ, ◌≤◌, ◌-◌}
+use Prim.Native.Nat.{ℕ}
 use Rattle.clash_check.proofs.has_third.Given as goal
 
 -- record t is a third one with pattern p
@@ -15,7 +15,4 @@ is at i j p t = not (eqb t i) && not (eqb t j) && equal (at t) p
 
 abbrev pub invariant-loop-t : goal.invariant-loop-t
 invariant-loop-t l =
-    (l.t ≤ l.table.count) × (any_below l.t (is (pattern_from (description l.desc l.layout) l.table.first) l.i l.j l.p) ≡ false)
-
-abbrev pub decreases-loop-t : goal.decreases-loop-t
-decreases-loop-t l = l.table.count - l.t
+    any_below l.t (is (pattern_from (description l.desc l.layout) l.table.first) l.i l.j l.p) ≡ false

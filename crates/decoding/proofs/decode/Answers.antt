@@ -1,17 +1,22 @@
-use mathlib.Core.Path.{sym, ◌∙◌}
+use mathlib.Core.Path.{sym, ap, ◌∙◌}
+use Rattle.std.proofs.Common.{Err}
+use Rattle.std.proofs.lemmas.Result.{err_from_is_err_and}
 use Rattle.acceptance.proofs.Facts.{accepted-formed}
 use Rattle.decoding.specs.Decoding.{decode_of, rows_after}
 use Rattle.decoding.proofs.decode.Goals as goal
 
 pub decode_in-requires : goal.decode_in-requires
-decode_in-requires c = accepted-formed _ _ (sym c.accept-acceptance.ensures ∙ c.in-Accepted.is)
+decode_in-requires c = accepted-formed _ _ (sym c.in_ok-layout.ensures)
 
-pub returns-in-Accepted : goal.returns-in-Accepted
+pub returns-in_err-layout : goal.returns-in_err-layout
 unfolding decode_of rows_after
-returns-in-Accepted c =
-    let e = sym c.accept-acceptance.ensures ∙ c.in-Accepted.is in
-    record { value = rw e c.decode_in.ensures.answer; rows_after = rw e c.decode_in.ensures.buffer }
+returns-in_err-layout c =
+    let e = err_from_is_err_and _ c.from_residual.ensures.1 in
+    let rejected = sym c.in_err-layout.ensures in
+    record { value = rw rejected (e.1 ∙ ap Err e.2); rows_after = rw rejected }
 
-pub returns-in-Rejected : goal.returns-in-Rejected
+pub returns : goal.returns
 unfolding decode_of rows_after
-returns-in-Rejected c = let e = sym c.accept-acceptance.ensures ∙ c.in-Rejected.is in record { value = rw e; rows_after = rw e }
+returns c =
+    let accepted = sym c.in_ok-layout.ensures in
+    record { value = rw accepted c.decode_in.ensures.answer; rows_after = rw accepted c.decode_in.ensures.buffer }

@@ -29,7 +29,7 @@ good c = good-step (record-at c.before.before.before.before.before) c.loop-i.i (
 
 -- the stack's top is one of its sixteen cells, or the one below them
 low : (c : In-loop-i) → (1 ≤ c.loop-i.top) × (c.loop-i.top ≤ 16)
-low c = (omega (arith, c.loop-i.invariant.1.deep, (good c).few, (good c).low), omega (arith, c.loop-i.invariant.1.deep))
+low c = (omega (arith, c.loop-i.invariant.deep, (good c).few, (good c).low), omega (arith, c.loop-i.invariant.deep))
 
 -- what was made is the next topmost value, if it is inside
 made-is : (c : After-make)
@@ -40,82 +40,36 @@ made-is c =
       back (get_or c.loop-i.stack (c.loop-i.top + 1) (pos 0)) c.x-1.given,
       back (get_or c.loop-i.stack c.loop-i.top (pos 0)) c.y-1.given,
     ) at c.make.ensures
-    ∙ ap kept (running-made (given-at c.before.before.before.before.before.before.before.before.before) (record-at c.before.before.before.before.before.before.before.before.before) c.loop-i.i c.loop-i.stack c.loop-i.top c.step_at-step.result c.loop-i.invariant.1 c.step_at-step.ensures)
-
-pub bounds-s-at : goal.bounds-s-at
-bounds-s-at c = omega (arith, c.requires.within)
+    ∙ ap kept (running-made (given-at c.before.before.before.before.before.before.before.before.before) (record-at c.before.before.before.before.before.before.before.before.before) c.loop-i.i c.loop-i.stack c.loop-i.top c.step_at-step.result c.loop-i.invariant c.step_at-step.ensures)
 
 pub loop-i-init : goal.loop-i-init
-loop-i-init c = (omega arith, running-start _ _)
+loop-i-init c = running-start _ _
 
 pub step_at-step-requires : goal.step_at-step-requires
 step_at-step-requires c = (c.requires.within, (good (goal.at.step_at-step-requires c).In-loop-i).few)
-
-pub overflow_add-x : goal.overflow_add-x
-overflow_add-x c = omega (arith, low (goal.at.overflow_add-x c).In-loop-i)
-
-pub offset_bounds-stack-top : goal.offset_bounds-stack-top
-offset_bounds-stack-top c = omega (arith, low (goal.at.offset_bounds-stack-top c).In-loop-i)
-
-pub bounds-stack-top : goal.bounds-stack-top
-bounds-stack-top c = omega (arith, low (goal.at.bounds-stack-top c).In-loop-i)
-
-pub offset_bounds-stack-top-in-loop-i : goal.offset_bounds-stack-top-in-loop-i
-offset_bounds-stack-top-in-loop-i c = omega (arith, low (goal.at.offset_bounds-stack-top-in-loop-i c).In-loop-i)
-
-pub bounds-stack-top-in-loop-i : goal.bounds-stack-top-in-loop-i
-bounds-stack-top-in-loop-i c = omega (arith, low (goal.at.bounds-stack-top-in-loop-i c).In-loop-i)
 
 pub make-requires : goal.make-requires
 make-requires c =
     rw c.step_at-step.ensures ((good (goal.at.make-requires c).In-loop-i).value, names_at (numbered (length c.args.operands.now)) (record-at (goal.at.make-requires c).Start) c.loop-i.i c.requires.names (counts (goal.at.make-requires c).In-loop-i))
 
-pub enum_known-v : goal.enum_known-v
-enum_known-v c = c.in-Value.in-Value-own.keys1
-
-pub enum_told-1 : goal.enum_told-1
-enum_told-1 c = c.in_default.in_default-own.keys2
-
-pub returns-in_default : goal.returns-in_default
-returns-in_default c =
-    running-stop (given-at (goal.at.returns-in_default c).Start) (record-at (goal.at.returns-in_default c).Start) c.loop-i.i c.loop-i.stack c.loop-i.top c.loop-i.invariant.1 (counts (goal.at.returns-in_default c).In-loop-i)
-    (is-outside _ (sym (made-is (goal.at.returns-in_default c).After-make) ∙ c.in_default.is))
-
-pub overflow_cast-top : goal.overflow_cast-top
-overflow_cast-top c = omega (arith, c.taken.ensures.1)
-
-pub overflow_add-top : goal.overflow_add-top
-overflow_add-top c = omega (arith, c.taken.ensures.1, low (goal.at.overflow_add-top c).In-loop-i)
+pub returns-in_err-v : goal.returns-in_err-v
+returns-in_err-v c =
+    c.from_residual.ensures
+    ∙ running-stop (given-at (goal.at.returns-in_err-v c).Start) (record-at (goal.at.returns-in_err-v c).Start) c.loop-i.i c.loop-i.stack c.loop-i.top c.loop-i.invariant (counts (goal.at.returns-in_err-v c).In-loop-i)
+    (is-outside _ (sym (made-is (goal.at.returns-in_err-v c).After-make) ∙ c.in_err-v.was))
 
 pub overflow_sub-top : goal.overflow_sub-top
 overflow_sub-top c = omega (arith, low (goal.at.overflow_sub-top c).In-loop-i)
 
-pub offset_bounds-stack-top-in-loop-i-2 : goal.offset_bounds-stack-top-in-loop-i-2
-offset_bounds-stack-top-in-loop-i-2 c = omega (arith, c.taken.ensures.1, low (goal.at.offset_bounds-stack-top-in-loop-i-2 c).In-loop-i)
-
-pub bounds-stack-top-in-loop-i-2 : goal.bounds-stack-top-in-loop-i-2
-bounds-stack-top-in-loop-i-2 c = omega (arith, c.taken.ensures.1, low (goal.at.bounds-stack-top-in-loop-i-2 c).In-loop-i)
-
-pub overflow_add-i : goal.overflow_add-i
-overflow_add-i c = omega (arith, (good (goal.at.overflow_add-i c).In-loop-i).few)
-
 pub loop-i-preserved : goal.loop-i-preserved
 loop-i-preserved c =
     let s = (goal.at.loop-i-preserved c).Start in
-    let v = c.in-Value.v in
-    let k = is-value (top_after (given-at s) (record-at s) (suc c.loop-i.i)) v (sym (made-is (goal.at.loop-i-preserved c).After-make) ∙ c.in-Value.is) in (
-      omega arith,
-      rw (back v (inside-mag v (rw (← k.0) at k.1)))
-          (running-step (given-at s) (record-at s) c.loop-i.i c.loop-i.stack c.loop-i.top c.taken.result v c.loop-i.invariant.1 (good (goal.at.loop-i-preserved c).In-loop-i) (rw c.step_at-step.ensures at c.taken.ensures.0) k.0 (rw (← k.0) at k.1)),
-    )
-
-pub offset_bounds-stack-top-2 : goal.offset_bounds-stack-top-2
-offset_bounds-stack-top-2 c = omega (arith, c.loop-i.invariant.1.deep)
-
-pub bounds-stack-top-2 : goal.bounds-stack-top-2
-bounds-stack-top-2 c = omega (arith, c.loop-i.invariant.1.deep)
+    let v = c.in_ok-v.v in
+    let k = is-value (top_after (given-at s) (record-at s) (suc c.loop-i.i)) v (sym (made-is (goal.at.loop-i-preserved c).After-make) ∙ c.in_ok-v.was) in
+    rw (c.from.ensures, back v (inside-mag v (rw (← k.0) at k.1)))
+    (running-step (given-at s) (record-at s) c.loop-i.i c.loop-i.stack c.loop-i.top c.taken.result v c.loop-i.invariant (good (goal.at.loop-i-preserved c).In-loop-i) (rw c.step_at-step.ensures at c.taken.ensures.0) k.0 (rw (← k.0) at k.1))
 
 pub returns : goal.returns
 returns c =
     rw (back _ c.result-1.given)
-    (running-end (given-at (goal.at.returns c).Start) (record-at (goal.at.returns c).Start) c.loop-i.i c.loop-i.stack c.loop-i.top c.loop-i.invariant.1 (omega (arith, count-here c.args.s.now c.args.at)))
+    (running-end (given-at (goal.at.returns c).Start) (record-at (goal.at.returns c).Start) c.loop-i.i c.loop-i.stack c.loop-i.top c.loop-i.invariant (omega (arith, count-here c.args.s.now c.args.at)))

@@ -16,27 +16,18 @@ tested : (c : After-named_ok)
     ≡ c.named_ok.result
 tested c = sym (c.named_ok.ensures ∙ rw c.step_at.ensures)
 
-pub count_at-count-requires : goal.count_at-count-requires
-count_at-count-requires c = c.requires
-
 pub loop-i-init : goal.loop-i-init
-loop-i-init c = (omega arith, all_none _)
-
-pub step_at-requires : goal.step_at-requires
-step_at-requires c = (c.requires, omega (arith, c.count_at-count.ensures))
+loop-i-init c = all_none _
 
 pub returns-then-not-named_ok : goal.returns-then-not-named_ok
 returns-then-not-named_ok c =
     names-stop (is_set c.args.operands) (record-at (goal.at.returns-then-not-named_ok c).Start) c.loop-i.i (omega (arith, c.count_at-count.ensures))
     (tested (goal.at.returns-then-not-named_ok c).After-named_ok ∙ c.if-not-named_ok.true)
 
-pub overflow_add-i : goal.overflow_add-i
-overflow_add-i c = omega (arith, c.count_at-count.ensures)
-
 pub loop-i-preserved : goal.loop-i-preserved
 loop-i-preserved c =
-    (omega arith, all_more _ c.loop-i.i c.loop-i.invariant.1 (tested (goal.at.loop-i-preserved c).After-named_ok ∙ c.if-not-named_ok.false))
+    all_more _ c.loop-i.i c.loop-i.invariant (tested (goal.at.loop-i-preserved c).After-named_ok ∙ c.if-not-named_ok.false)
 
 pub returns : goal.returns
 returns c =
-    names-end (is_set c.args.operands) c.args.s.now c.args.at c.loop-i.i (omega (arith, c.count_at-count.ensures)) c.loop-i.invariant.1
+    names-end (is_set c.args.operands) c.args.s.now c.args.at c.loop-i.i (omega (arith, c.count_at-count.ensures)) c.loop-i.invariant

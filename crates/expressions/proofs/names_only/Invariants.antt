@@ -1,4 +1,3 @@
-use Prim.Native.Nat.{◌-◌, ◌≤◌}
 use mathlib.Core.Bool.{true}
 use mathlib.Core.Path.{◌≡◌}
 use Rattle.bits.specs.Bits.{is_set}
@@ -8,7 +7,4 @@ use Rattle.expressions.proofs.Names.{named}
 use Rattle.expressions.proofs.names_only.Given as goal
 
 abbrev pub invariant-loop-i : goal.invariant-loop-i
-invariant-loop-i l = (l.i ≤ l.count) × (all_below l.i (λ k. named (is_set l.operands) (step_of (expression_at l.s l.at) k)) ≡ true)
-
-abbrev pub decreases-loop-i : goal.decreases-loop-i
-decreases-loop-i l = l.count - l.i
+invariant-loop-i l = all_below l.i (λ k. named (is_set l.operands) (step_of (expression_at l.s l.at) k)) ≡ true

@@ -7,14 +7,14 @@ use mir.Facts.{to_z-of_z}
 use mir.Syntax.{w64}
 use mir.Val.{to_z, of_z}
 use Rattle.whole_numbers.specs.Range.{kept}
-use Rattle.whole_numbers.specs.declared.Whole.TheVariants.{Value}
+use Rattle.std.specs.Prelude.{Some}
 use Rattle.whole_numbers.proofs.Kept.{keeps, mag-inside}
 use Rattle.expressions.proofs.Making.{is-plus, is-minus, is-times, is-and, is-or, is-xor, is-left, is_right, shift_small, last-kind}
 use Rattle.expressions.proofs.operate.Goals.{In-10, In_default}
 use Rattle.expressions.proofs.operate.Goals as goal
 
 -- what a function gives as an i64 is kept
-held : (z : ℤ) → mag z < 2 ^ 63 → Value (to_z w64 (of_z w64 z)) ≡ kept z
+held : (z : ℤ) → mag z < 2 ^ 63 → Some (to_z w64 (of_z w64 z)) ≡ kept z
 held z h = keeps z (mag-inside z h)
 
 leftwards : (c : In-10) → c.args.step.value < 64

@@ -1,4 +1,3 @@
-use Prim.Native.Nat.{◌-◌, ◌≤◌}
 use mathlib.Core.Bool.{true}
 use mathlib.Core.Path.{◌≡◌}
 use Rattle.lists.specs.Below.{all_below}
@@ -7,7 +6,4 @@ use Rattle.expressions.proofs.Records.{blank}
 use Rattle.expressions.proofs.rest_empty.Given as goal
 
 abbrev pub invariant-loop-i : goal.invariant-loop-i
-invariant-loop-i l = ((expression_at l.s l.at).count ≤ l.i) × (l.i ≤ 16) × (all_below l.i (blank (expression_at l.s l.at)) ≡ true)
-
-abbrev pub decreases-loop-i : goal.decreases-loop-i
-decreases-loop-i l = 16 - l.i
+invariant-loop-i l = all_below l.i (blank (expression_at l.s l.at)) ≡ true

@@ -1,4 +1,3 @@
-use Prim.Native.Nat.{◌≤◌}
 use mathlib.Core.Bool.{true}
 use mathlib.Core.Path.{◌≡◌, sym, ◌∙◌}
 use native.Mathlib.Omega.{arith}
@@ -8,7 +7,7 @@ use Rattle.expressions.proofs.steps_ok.Goals.{Else-not-step_ok}
 use Rattle.expressions.proofs.steps_ok.Goals as goal
 
 pub loop-i-init : goal.loop-i-init
-loop-i-init c = (omega arith, stepping-start _)
+loop-i-init c = stepping-start _
 
 pub step_at-step-requires : goal.step_at-step-requires
 step_at-step-requires c =
@@ -17,7 +16,7 @@ step_at-step-requires c =
 pub returns-then-not-step_ok : goal.returns-then-not-step_ok
 returns-then-not-step_ok c =
     let e = expression_at c.args.s.now c.args.at in
-    stepping-stop e c.loop-i.i c.loop-i.depth c.step_at-step.result c.loop-i.invariant.1
+    stepping-stop e c.loop-i.i c.loop-i.depth c.step_at-step.result c.loop-i.invariant
     c.step_at-step.ensures (omega (arith, count-here c.args.s.now c.args.at))
     (sym c.step_ok.ensures ∙ c.if-not-step_ok.true)
 
@@ -26,31 +25,15 @@ passed : (c : Else-not-step_ok)
     → step_ok c.loop-i.depth c.step_at-step.result ≡ true
 passed c = sym c.step_ok.ensures ∙ c.if-not-step_ok.false
 
--- at most as many values as steps, and those are few
-low : (c : Else-not-step_ok)
-    → (c.loop-i.depth ≤ 16) × (c.loop-i.i ≤ 16)
-low c = (
-  omega (arith, c.loop-i.invariant.1.low, c.loop-i.invariant.0, c.requires.1, count-here c.args.s.now c.args.at),
-  omega (arith, c.loop-i.invariant.0, c.requires.1, count-here c.args.s.now c.args.at),
-)
-
-pub overflow_add-depth : goal.overflow_add-depth
-overflow_add-depth c = omega (arith, low (goal.at.overflow_add-depth c).Else-not-step_ok)
-
 pub overflow_sub-depth : goal.overflow_sub-depth
 overflow_sub-depth c =
     omega (arith, c.taken.ensures.0, enough c.loop-i.depth c.step_at-step.result (passed (goal.at.overflow_sub-depth c).Else-not-step_ok))
 
-pub overflow_add-i : goal.overflow_add-i
-overflow_add-i c = omega (arith, low (goal.at.overflow_add-i c).Else-not-step_ok)
-
 pub loop-i-preserved : goal.loop-i-preserved
-loop-i-preserved c = (
-  omega arith,
-  stepping-more _ c.loop-i.i c.loop-i.depth c.taken.result c.step_at-step.result c.loop-i.invariant.1
-      c.step_at-step.ensures (passed (goal.at.loop-i-preserved c).Else-not-step_ok) c.taken.ensures.0,
-)
+loop-i-preserved c =
+    stepping-more _ c.loop-i.i c.loop-i.depth c.taken.result c.step_at-step.result c.loop-i.invariant
+    c.step_at-step.ensures (passed (goal.at.loop-i-preserved c).Else-not-step_ok) c.taken.ensures.0
 
 pub returns : goal.returns
 returns c =
-    stepping-end _ c.loop-i.i c.loop-i.depth c.loop-i.invariant.1 (omega (arith, count-here c.args.s.now c.args.at))
+    stepping-end _ c.loop-i.i c.loop-i.depth c.loop-i.invariant (omega (arith, count-here c.args.s.now c.args.at))

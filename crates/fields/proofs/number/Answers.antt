@@ -3,13 +3,6 @@ use mir.Syntax.{w64}
 use Rattle.fields.proofs.Signs.{value-fits, number_is, less-power, less-fits}
 use Rattle.fields.proofs.number.Goals as goal
 
-pub overflow_cast-v : goal.overflow_cast-v
-overflow_cast-v c = record { sfits = value-fits c.args.bits c.args.value c.requires.1 c.requires.2 }
-
-pub overflow_sub-result : goal.overflow_sub-result
-overflow_sub-result c =
-    rw (less-power c.args.bits c.args.value c.requires.1 c.requires.2) (less-fits c.args.bits c.args.value c.requires.1 c.requires.2)
-
 pub returns-then-signed-value : goal.returns-then-signed-value
 returns-then-signed-value c =
     rw (

@@ -3,11 +3,6 @@ use native.Mathlib.Omega.{arith}
 use Rattle.fields.proofs.Tokens.{token-value, context-value}
 use Rattle.fields.proofs.value.Goals as goal
 
-pub token-requires : goal.token-requires
-token-requires c =
-    let r = c.requires.readable in
-    record { one = omega (arith, r.some, r.within); four = r.narrow; present = c.requires.width_in_bounds c.if-field-eq0.true }
-
 pub returns-then-field-eq0 : goal.returns-then-field-eq0
 returns-then-field-eq0 c =
     rw (c.cut.ensures, c.token.ensures)

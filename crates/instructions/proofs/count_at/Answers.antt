@@ -24,7 +24,7 @@ unfolding last_at
 overflow_cast-result c =
     let row = c.requires.readable.row _ c.requires.within in
     let last = row.name (sym (kind-here _ c.args.row _ c.column-kind.ensures) ∙ c.if-kind-eq2.true) in
-    record { sfits = omega (arith, c.less.ensures, rw (to_z-of_z {w = w64} (record { sfits = c.magnitude-arg-1.given })) at c.magnitude-name.ensures, small-name c.args.rows.now c.args.row last c.magnitude-arg-1.given) }
+    record { sfits = omega (arith, c.saturating_sub.ensures, rw (to_z-of_z {w = w64} (record { sfits = c.magnitude-arg-1.given })) at c.magnitude-name.ensures, small-name c.args.rows.now c.args.row last c.magnitude-arg-1.given) }
 
 pub returns-then-kind-eq2 : goal.returns-then-kind-eq2
 unfolding number_at last_at
@@ -33,9 +33,9 @@ returns-then-kind-eq2 c =
     let two = sym (kind-here _ c.args.row _ c.column-kind.ensures) ∙ c.if-kind-eq2.true in
     let name = rw (to_z-of_z {w = w64} (record { sfits = c.magnitude-arg-1.given })) at c.magnitude-name.ensures in
     let small = small-name c.args.rows.now c.args.row (row.name two) c.magnitude-arg-1.given in
-    to_z_pos w64 {n = c.less.result} (omega (arith, c.less.ensures, name, small))
-    ∙ ap pos c.less.ensures
-    ∙ rw (name, c.field-field.ensures, c.column-index.ensures)
+    to_z_pos w64 {n = c.saturating_sub.result} (omega (arith, c.saturating_sub.ensures, name, small))
+    ∙ ap pos c.saturating_sub.ensures
+    ∙ rw (name, c.from.ensures, c.field-field.ensures, c.column-index.ensures)
     (count-name _ c.args.rows.now c.args.row two)
 
 pub returns : goal.returns

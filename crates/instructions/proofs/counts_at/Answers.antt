@@ -40,12 +40,6 @@ count_at-requires c =
     let end = (c.requires.readable.row _ c.requires.within).ends in
     record { fixed = c.requires.fixed; readable = c.requires.readable; within = omega (arith, size, end, c.if-end-row.false) }
 
-pub offset_bounds-counts-o : goal.offset_bounds-counts-o
-offset_bounds-counts-o c = omega (arith, c.loop-o-test.true)
-
-pub bounds-counts-o : goal.bounds-counts-o
-bounds-counts-o c = c.loop-o-test.true
-
 pub overflow_mul-row : goal.overflow_mul-row
 unfolding size_at
 overflow_mul-row c =
@@ -76,12 +70,6 @@ overflow_add-row-in-loop-o-2 c =
     let end = (c.requires.readable.row _ c.requires.within).ends in
     let next = (c.requires.readable.row row (omega (arith, size, end, c.if-end-row.false))).ends in
     omega (arith, own, next, c.requires.readable.few)
-
-pub overflow_add-o : goal.overflow_add-o
-overflow_add-o c = omega (arith, c.loop-o-test.true)
-
-pub loop-o-smaller : goal.loop-o-smaller
-loop-o-smaller c = omega (arith, c.loop-o-test.true)
 
 pub loop-o-preserved : goal.loop-o-preserved
 unfolding size_at

@@ -1,11 +1,7 @@
-use Prim.Native.Nat.{◌≤◌}
 use mathlib.Core.Path.{◌≡◌}
 use Rattle.instructions.specs.Settling.{owner_below}
 use Rattle.instructions.proofs.owner_of.Given as goal
 
 -- `instructions::owner_of` meets its contract. Assumes nothing.
 abbrev pub invariant-loop-k : goal.invariant-loop-k
-invariant-loop-k l = (l.k ≤ l.row) × (owner_below l.rows l.row l.k ≡ owner_below l.rows l.row l.row)
-
-abbrev pub decreases-loop-k : goal.decreases-loop-k
-decreases-loop-k l = l.k
+invariant-loop-k l = owner_below l.rows l.row l.k ≡ owner_below l.rows l.row l.row

@@ -1,32 +1,22 @@
-use mathlib.Core.Path.{◌∙◌}
-use native.Mathlib.Omega.{arith}
+use Rattle.std.proofs.lemmas.Result.{err_from_is_err_and}
 use Rattle.instructions.proofs.Evaluating.{settled-none, settled-all, settled-stop, settled-next}
 use Rattle.instructions.proofs.settle.Goals as goal
 
 pub loop-row-init : goal.loop-row-init
 loop-row-init c = settled-none _ _ _ _ _ c.requires.1
 
-pub settle_row-settled-requires : goal.settle_row-settled-requires
-settle_row-settled-requires c =
+pub settle_row-requires : goal.settle_row-requires
+settle_row-requires c =
     record { fixed = c.requires.0; readable = c.loop-row.invariant.readable; within = c.loop-row-test.true }
 
-pub shape_of-rows-in-OutsideAt : goal.shape_of-rows-in-OutsideAt
-shape_of-rows-in-OutsideAt c =
-    c.settle_row-settled.auto.rows ∙ c.loop-row.invariant.kept
-
-pub returns-in-OutsideAt : goal.returns-in-OutsideAt
-returns-in-OutsideAt c =
-    settled-stop _ _ _ _ _ _ _ c.loop-row.invariant c.loop-row-test.true _ _ c.settle_row-settled.ensures _ c.in-OutsideAt.is _
-
-pub overflow_add-row : goal.overflow_add-row
-overflow_add-row c = omega (arith, c.loop-row-test.true)
-
-pub loop-row-smaller : goal.loop-row-smaller
-loop-row-smaller c = omega (arith, c.loop-row-test.true)
+pub returns-in_err-settle_row : goal.returns-in_err-settle_row
+returns-in_err-settle_row c =
+    let p = err_from_is_err_and c.from_residual.result c.from_residual.ensures.1 in
+    rw (p.1, p.2) (settled-stop _ _ _ _ _ _ _ c.loop-row.invariant c.loop-row-test.true _ _ c.settle_row.ensures _ c.in_err-settle_row.was _)
 
 pub loop-row-preserved : goal.loop-row-preserved
 loop-row-preserved c =
-    settled-next _ _ _ _ _ _ _ c.loop-row.invariant c.loop-row-test.true _ _ c.settle_row-settled.ensures c.in-AllInside.is c.settle_row-settled.auto.rows
+    settled-next _ _ _ _ _ _ _ c.loop-row.invariant c.loop-row-test.true _ _ c.settle_row.ensures c.in_ok-settle_row.was c.settle_row.auto.rows
 
 pub shape_of-rows : goal.shape_of-rows
 shape_of-rows c = c.loop-row.invariant.kept

@@ -14,4 +14,4 @@ settle_walk-requires c =
 
 pub returns : goal.returns
 returns c =
-    let told = c.walk_at-walked.ensures.fixed_after in record { rows_after = rw (told_same _ c.args.fixed.now c.args.code.now c.args.at c.requires.0 _ told) at c.settle_walk.ensures ∙ settles-all _ c.args.fixed.now c.args.code.now c.args.at c.args.context c.args.address c.requires.0 _ _ c.walk_at-walked.ensures.rows_after; fixed_after = told }
+    let told = c.walk_at-walked.ensures.fixed_after in record { rows_after = rw (told_same _ c.args.fixed.now c.args.code.now c.args.at c.requires.0 _ told, c.from.ensures) at c.settle_walk.ensures ∙ settles-all _ c.args.fixed.now c.args.code.now c.args.at c.args.context c.args.address c.requires.0 _ _ c.walk_at-walked.ensures.rows_after; fixed_after = told }

@@ -1,21 +1,8 @@
-use mathlib.Core.Path.{sym, ap, ◌∙◌}
-use native.Mathlib.Omega.{arith}
-use lib.ListN.{length}
 use Rattle.listing_parts.proofs.Appending.{put-taken}
 use Rattle.listing_lines.proofs.Made.{line_made}
 use Rattle.listing_lines.proofs.line_at.Goals as goal
 
 -- `listing_lines::line_at` meets its contract. Assumes nothing.
-pub slice_bounds-put_line-end : goal.slice_bounds-put_line-end
-slice_bounds-put_line-end c =
-    let shown = c.show-found.ensures.text in
-    shown.size ∙ sym (ap length (put-taken _ _ _ _ shown))
-
-pub put_line-size-requires : goal.put_line-size-requires
-put_line-size-requires c =
-    let shown = c.show-found.ensures.text in
-    (omega (arith, ap length (put-taken _ _ _ _ shown), shown.fits), c.requires.1)
-
 pub returns : goal.returns
 returns c =
     let shown = c.show-found.ensures in

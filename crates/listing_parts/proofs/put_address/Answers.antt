@@ -1,6 +1,5 @@
 use mathlib.Core.List.{[], ◌∷◌}
-use mathlib.Core.Logic.{inr}
-use mathlib.Core.Path.{◌≡◌, refl, ap, ◌∙◌}
+use mathlib.Core.Path.{◌≡◌, ap, ◌∙◌}
 use native.Mathlib.Omega.{arith}
 use lib.ListN.{length}
 use Rattle.printing.specs.Numerals.{digits_of}
@@ -15,9 +14,6 @@ returns-then-here-lt4294967296 c =
     let few = address-few c.args.here c.if-here-lt4294967296.true in
     let long : length c.short_address-head.result ≡ 10 = ap length c.short_address-head.ensures ∙ short-long c.args.here in
     rw (few, ← c.short_address-head.ensures) (put_first c.short_address-head.result c.args.line.now _ _ (omega arith) c.append.ensures)
-
-pub append_number-end-requires : goal.append_number-end-requires
-append_number-end-requires c = (inr refl, search rules)
 
 pub append-requires-2 : goal.append-requires-2
 append-requires-2 c =

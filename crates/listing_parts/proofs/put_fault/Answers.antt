@@ -1,15 +1,9 @@
-use mathlib.Core.Logic.{inl}
-use mathlib.Core.Path.{refl}
 use native.Mathlib.Omega.{arith}
 use Rattle.printing.specs.Numerals.{digits_of}
 use Rattle.printing.proofs.Numerals.{digits-length}
 use Rattle.listing_parts.specs.Parts.{malformed_text, malformed_word}
 use Rattle.listing_parts.proofs.Appending.{put_first, put-more}
-use borrow.Author.Rules.{rules}
 use Rattle.listing_parts.proofs.put_fault.Goals as goal
-
-pub append_number-b-requires : goal.append_number-b-requires
-append_number-b-requires c = (inl refl, search rules)
 
 pub append-c-requires : goal.append-c-requires
 append-c-requires c =
@@ -17,7 +11,7 @@ append-c-requires c =
 
 pub append_number-d-requires : goal.append_number-d-requires
 append_number-d-requires c =
-    (inl refl, rw (c.append-c.auto.out, c.append_number-b.auto.out, c.append-a.auto.out) (omega (arith, c.requires, c.append-a.ensures.size, c.append_number-b.ensures.size, c.append-c.ensures.size, digits-length 10 c.args.first)))
+    rw (c.append-c.auto.out, c.append_number-b.auto.out, c.append-a.auto.out) (omega (arith, c.requires, c.append-a.ensures.size, c.append_number-b.ensures.size, c.append-c.ensures.size, digits-length 10 c.args.first))
 
 pub append-requires : goal.append-requires
 append-requires c =

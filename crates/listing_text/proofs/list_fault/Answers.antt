@@ -7,13 +7,13 @@ slice_bounds-text-end c = size_fits _ c.args.out.now 0 _ c.fault_line-line.ensur
 pub slice_bounds-put_bytes-end : goal.slice_bounds-put_bytes-end
 slice_bounds-put_bytes-end c = prefix-long _ c.args.out.now 0 _ c.fault_line-line.ensures
 
-pub returns-in-Full : goal.returns-in-Full
-returns-in-Full c =
-    fault-full _ _ _ _ c.fault_line-line.ensures c.if-from-eq0.true _ _ c.put_bytes-put.ensures c.in-Full.is
+pub returns-in-None : goal.returns-in-None
+returns-in-None c =
+    fault-full _ _ _ _ c.fault_line-line.ensures c.if-from-ne0.false _ _ c.put_bytes.ensures c.in-None.is
 
-pub returns-in-Wrote : goal.returns-in-Wrote
-returns-in-Wrote c =
-    fault-written _ _ _ _ c.fault_line-line.ensures c.if-from-eq0.true _ _ c.put_bytes-put.ensures _ c.in-Wrote.is
+pub returns-in-Some : goal.returns-in-Some
+returns-in-Some c =
+    fault-written _ _ _ _ c.fault_line-line.ensures c.if-from-ne0.false _ _ c.put_bytes.ensures _ c.in-Some.is
 
-pub returns : goal.returns
-returns c = fault-behind _ _ _ c.if-from-eq0.false
+pub returns-then-from-ne0 : goal.returns-then-from-ne0
+returns-then-from-ne0 c = fault-behind _ _ _ c.if-from-ne0.true

@@ -32,26 +32,26 @@ pub slice_bounds-put_bytes-end : goal.slice_bounds-put_bytes-end
 slice_bounds-put_bytes-end c =
     prefix-long _ _ _ _ _ _ _ _ _ _ _ _ _ c.loop-at.invariant.0 c.loop-at-test.true _ c.line_at-shown.ensures.value _ _ c.loop-at.invariant.1 c.line_at-shown.ensures.line_after
 
-pub returns-in-Full : goal.returns-in-Full
-returns-in-Full c =
-    rw (found (goal.at.returns-in-Full c).After-fill-fixed) at
-    (full-turn _ _ _ _ _ _ _ _ _ _ _ _ _ c.loop-at.invariant.0 c.loop-at-test.true _ c.line_at-shown.ensures.value _ _ c.loop-at.invariant.1 c.line_at-shown.ensures.line_after _ _ _ refl c.put_bytes-put.ensures c.in-Full.is)
+pub returns-in_default : goal.returns-in_default
+returns-in_default c =
+    rw (found (goal.at.returns-in_default c).After-fill-fixed) at
+    (full-turn _ _ _ _ _ _ _ _ _ _ _ _ _ c.loop-at.invariant.0 c.loop-at-test.true _ c.line_at-shown.ensures.value _ _ c.loop-at.invariant.1 c.line_at-shown.ensures.line_after _ _ _ refl c.put_bytes-put.ensures c.in_default.is)
 
 pub overflow_add-bytes : goal.overflow_add-bytes
 overflow_add-bytes c =
-    omega (arith, count_fits _ _ _ _ _ _ _ _ _ _ _ _ _ c.loop-at.invariant.0 c.loop-at-test.true _ c.line_at-shown.ensures.value _ _ c.loop-at.invariant.1 c.line_at-shown.ensures.line_after _ _ _ refl c.put_bytes-put.ensures _ c.in-Wrote.is, c.well_formed.1.1.1.1.1.1.1.0)
+    omega (arith, count_fits _ _ _ _ _ _ _ _ _ _ _ _ _ c.loop-at.invariant.0 c.loop-at-test.true _ c.line_at-shown.ensures.value _ _ c.loop-at.invariant.1 c.line_at-shown.ensures.line_after _ _ _ refl c.put_bytes-put.ensures _ c.in-Some.is, c.well_formed.1.1.1.1.1.1.1.0)
 
 pub overflow_add-lines : goal.overflow_add-lines
 overflow_add-lines c =
-    omega (arith, lines_fit _ _ _ _ _ _ _ _ _ _ _ _ _ c.loop-at.invariant.0 c.loop-at-test.true _ c.line_at-shown.ensures.value _ _ c.loop-at.invariant.1 c.line_at-shown.ensures.line_after _ _ _ refl c.put_bytes-put.ensures _ c.in-Wrote.is, c.well_formed.1.1.1.1.1.1.1.0)
+    omega (arith, lines_fit _ _ _ _ _ _ _ _ _ _ _ _ _ c.loop-at.invariant.0 c.loop-at-test.true _ c.line_at-shown.ensures.value _ _ c.loop-at.invariant.1 c.line_at-shown.ensures.line_after _ _ _ refl c.put_bytes-put.ensures _ c.in-Some.is, c.well_formed.1.1.1.1.1.1.1.0)
 
 pub loop-at-smaller : goal.loop-at-smaller
 loop-at-smaller c =
-    omega (arith, moves _ _ _ _ _ _ _ _ _ _ _ _ _ c.loop-at.invariant.0 c.loop-at-test.true _ c.line_at-shown.ensures.value _ _ c.loop-at.invariant.1 c.line_at-shown.ensures.line_after _ _ _ refl c.put_bytes-put.ensures _ c.in-Wrote.is, c.loop-at-test.true)
+    omega (arith, moves _ _ _ _ _ _ _ _ _ _ _ _ _ c.loop-at.invariant.0 c.loop-at-test.true _ c.line_at-shown.ensures.value _ _ c.loop-at.invariant.1 c.line_at-shown.ensures.line_after _ _ _ refl c.put_bytes-put.ensures _ c.in-Some.is, c.loop-at-test.true)
 
 pub loop-at-preserved : goal.loop-at-preserved
 loop-at-preserved c = (
-  next-turn _ _ _ _ _ _ _ _ _ _ _ _ _ c.loop-at.invariant.0 c.loop-at-test.true _ c.line_at-shown.ensures.value _ _ c.loop-at.invariant.1 c.line_at-shown.ensures.line_after _ _ _ refl c.put_bytes-put.ensures _ c.in-Wrote.is _ c.line_at-shown.ensures.fixed_after _ refl,
+  next-turn _ _ _ _ _ _ _ _ _ _ _ _ _ c.loop-at.invariant.0 c.loop-at-test.true _ c.line_at-shown.ensures.value _ _ c.loop-at.invariant.1 c.line_at-shown.ensures.line_after _ _ _ refl c.put_bytes-put.ensures _ c.in-Some.is _ c.line_at-shown.ensures.fixed_after _ refl,
   line-wide _ _ _ _ _ _ _ _ _ _ _ _ _ c.loop-at.invariant.0 c.loop-at-test.true _ c.line_at-shown.ensures.value _ _ c.loop-at.invariant.1 c.line_at-shown.ensures.line_after,
 )
 

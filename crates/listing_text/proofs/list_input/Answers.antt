@@ -24,22 +24,22 @@ pub slice_bounds-code-end : goal.slice_bounds-code-end
 slice_bounds-code-end c = omega (arith, (in_order _ _ c.take_apart-split.ensures).2)
 
 pub list_in-requires : goal.list_in-requires
-list_in-requires c = (accepted-formed _ _ (sym c.accept-acceptance.ensures ∙ c.in-Accepted.is), refl)
+list_in-requires c = (accepted-formed _ _ (sym c.accept.ensures ∙ c.in-Ok.is), refl)
 
-pub returns-in-Accepted : goal.returns-in-Accepted
+pub returns-in-Ok : goal.returns-in-Ok
 unfolding input_window
-returns-in-Accepted c =
+returns-in-Ok c =
     let split = c.take_apart-split.ensures in
     let b = description-there c.args.input.now _ split in
     let s = code-there c.args.input.now _ split in
-    let e = rw b at (sym c.accept-acceptance.ensures ∙ c.in-Accepted.is) in
+    let e = rw b at (sym c.accept.ensures ∙ c.in-Ok.is) in
     let h = c.list_in.ensures in
     record { value = rw e (rw (b, s) at h.answer); out_after = rw e (rw (b, s) at h.text) }
 
-pub returns-in-Rejected : goal.returns-in-Rejected
+pub returns-in-Err : goal.returns-in-Err
 unfolding input_window
-returns-in-Rejected c =
+returns-in-Err c =
     let b = description-there c.args.input.now _ c.take_apart-split.ensures in
-    let e = rw b at (sym c.accept-acceptance.ensures ∙ c.in-Rejected.is) in
+    let e = rw b at (sym c.accept.ensures ∙ c.in-Err.is) in
     let h = c.list_fault.ensures in
     record { value = rw e h.answer; out_after = rw e h.text }

@@ -6,4 +6,4 @@ pub returns-then-n-lt2 : goal.returns-then-n-lt2
 returns-then-n-lt2 c = split-none _ c.if-n-lt2.true
 
 pub returns : goal.returns
-returns c = split_at _ _ _ _ c.if-n-lt2.false c.word-long.ensures c.smaller-end.ensures c.smaller-last.ensures
+returns c = split_at _ _ _ _ c.if-n-lt2.false c.word-long.ensures c.min-end.ensures c.min-last.ensures

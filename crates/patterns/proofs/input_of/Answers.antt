@@ -1,15 +1,10 @@
 use Rattle.patterns.proofs.Bytes.{shifted, whole-input, few-input}
-use lib.Pow.{pow_pos}
 use lib.ListN.{length}
-use Prim.Native.Nat.{◌*◌}
 use Rattle.patterns.proofs.input_of.Goals as goal
 
 pub returns-then-n-ge8 : goal.returns-then-n-ge8
 returns-then-n-ge8 c =
     rw c.quad.ensures (whole-input c.args.code.now c.args.context c.if-n-ge8.true)
-
-pub overflow_sub-here : goal.overflow_sub-here
-overflow_sub-here c = rw (shifted (length c.args.code.now) c.if-n-ge8.false) (pow_pos (8 * length c.args.code.now))
 
 pub returns : goal.returns
 returns c =

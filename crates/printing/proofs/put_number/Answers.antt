@@ -1,66 +1,36 @@
-use Prim.Native.Nat.{◌≤◌, ◌-◌}
 use mathlib.Core.List.{◌++◌}
-use mathlib.Core.Path.{◌≡◌}
+use mathlib.Core.Path.{◌≡◌, ◌∙◌}
 use native.Mathlib.Omega.{arith}
 use lib.IntN.{nat_abs}
-use lib.ListN.{take, drop, length-drop}
-use lib.Seq.{take_all}
 use mir.Facts.{to_z-of_z}
 use mir.Syntax.{w64}
-use Rattle.printing.specs.Ending.{Ends}
-use Rattle.printing.specs.Numerals.{digits_of, prefix_text, number_text}
+use Rattle.printing.specs.Numerals.{base_number, digits_of, prefix_text, number_text}
 use Rattle.printing.proofs.Numerals.{digits-length, unsigned-length}
 use Rattle.printing.proofs.Signs.{number-below, number-unsigned}
-use borrow.Author.Rules.{rules}
-use Rattle.printing.proofs.put_number.Goals.{After-put_prefix-at, Joined-value-lt0, then-value-lt0, else-value-lt0}
+use Rattle.printing.proofs.put_number.Goals.{After-put_prefix, Joined-value-lt0, then-value-lt0, else-value-lt0}
 use Rattle.printing.proofs.put_number.Goals as goal
 
-pub put_prefix-at-requires : goal.put_prefix-at-requires
-put_prefix-at-requires c =
-    let w = c.put_digits-at.ensures in
-    (w.long, omega (arith, w.start, digits-length c.args.base c.magnitude.result), omega (arith, w.start))
+pub put_prefix-requires : goal.put_prefix-requires
+put_prefix-requires c = rw c.of-numeral.ensures (omega (arith, digits-length (base_number c.args.base) c.magnitude.result))
 
--- the numeral without its sign stands at the end
-prefixed : (c : After-put_prefix-at)
-    → Ends c.put_prefix-at.new.text c.put_prefix-at.result
-    (prefix_text c.args.base
-    ++ digits_of c.args.base (nat_abs c.args.value))
-prefixed c =
-    rw (
-      c.put_digits-at.ensures.is,
-      c.magnitude.ensures,
-      to_z-of_z {w = w64} c.ranges.value,
-    ) at
-    c.put_prefix-at.ensures
+-- the numeral without its sign
+prefixed : (c : After-put_prefix)
+    → c.put_prefix.new.self ≡ prefix_text (base_number c.args.base) ++ digits_of (base_number c.args.base) (nat_abs c.args.value)
+prefixed c = rw (c.of-numeral.ensures, c.magnitude.ensures, to_z-of_z {w = w64} c.ranges.value) at c.put_prefix.ensures
 
--- and then with it
-whole : (c : Joined-value-lt0)
-    → Ends c.if-value-lt0.text c.if-value-lt0.at (number_text c.args.base c.args.value)
+pub put_before-requires : goal.put_before-requires
+put_before-requires c =
+    rw (prefixed (goal.at.put_before-requires c).After-put_prefix) (omega (arith, unsigned-length (base_number c.args.base) (nat_abs c.args.value)))
+
+-- and with it
+whole : (c : Joined-value-lt0) → c.if-value-lt0.numeral ≡ number_text (base_number c.args.base) c.args.value
 whole c =
     let back = to_z-of_z {w = w64} c.ranges.value in
-    let p = rw (c.put_digits-at.ensures.is, c.magnitude.ensures, back) at c.put_prefix-at.ensures in
+    let p = rw (c.of-numeral.ensures, c.magnitude.ensures, back) at c.put_prefix.ensures in
     elim c.if-value-lt0.branch [
-      | then-value-lt0 w ↦ rw (w.text-is, w.at-is, number-below c.args.base c.args.value (rw back at w.if-value-lt0.true)) (rw p.is at w.put_before-at.ensures)
-      | else-value-lt0 w ↦ rw (w.text-is, w.at-is, number-unsigned c.args.base c.args.value (rw back at w.if-value-lt0.false)) p
+      | then-value-lt0 w ↦ rw (number-below (base_number c.args.base) c.args.value (rw back at w.if-value-lt0.true)) (w.numeral-is ∙ rw p at w.put_before.ensures)
+      | else-value-lt0 w ↦ rw (number-unsigned (base_number c.args.base) c.args.value (rw back at w.if-value-lt0.false)) (w.numeral-is ∙ p)
     ]
 
-pub put_before-at-requires : goal.put_before-at-requires
-put_before-at-requires c =
-    let w = prefixed (goal.at.put_before-at-requires c).After-put_prefix-at in
-    (w.long, omega (arith, w.start, unsigned-length c.args.base (nat_abs c.args.value)), omega (arith, w.start))
-
-pub slice_bounds-put_bytes-count : goal.slice_bounds-put_bytes-count
-slice_bounds-put_bytes-count c = omega (arith, (whole (goal.at.slice_bounds-put_bytes-count c).Joined-value-lt0).start)
-
-pub slice_bounds-put_bytes-start : goal.slice_bounds-put_bytes-start
-slice_bounds-put_bytes-start c = let h : c.if-value-lt0.at ≤ 23 = omega (arith, (whole (goal.at.slice_bounds-put_bytes-start c).Joined-value-lt0).start) in search rules
-
-pub slice_bounds-put_bytes-end : goal.slice_bounds-put_bytes-end
-slice_bounds-put_bytes-end c = omega (arith, (whole (goal.at.slice_bounds-put_bytes-end c).Joined-value-lt0).start, (whole (goal.at.slice_bounds-put_bytes-end c).Joined-value-lt0).long)
-
 pub returns : goal.returns
-returns c =
-    let w = whole (goal.at.returns c).Joined-value-lt0 in
-    let part : take (23 - c.if-value-lt0.at) (drop c.if-value-lt0.at c.if-value-lt0.text) ≡ drop c.if-value-lt0.at c.if-value-lt0.text =
-    take_all (23 - c.if-value-lt0.at) (drop c.if-value-lt0.at c.if-value-lt0.text) (omega (arith, length-drop c.if-value-lt0.at c.if-value-lt0.text, w.long)) in
-    rw (part, w.is) at c.put_bytes.ensures
+returns c = rw (c.bytes.ensures, whole (goal.at.returns c).Joined-value-lt0) at c.put_bytes.ensures

@@ -4,7 +4,7 @@ use Rattle.format.proofs.Lists.{constructors-length}
 use Rattle.format.specs.Rules.{has_table}
 use lib.ListN.{length-set}
 use native.Mathlib.Omega.{arith}
-use mathlib.Core.Path.{◌≡◌, refl, ◌∙◌}
+use mathlib.Core.Path.{◌≡◌, ◌∙◌}
 use Rattle.rules.proofs.mark_tables.Invariants.{hits}
 use Rattle.rules.proofs.mark_tables.Goals as goal
 
@@ -12,16 +12,14 @@ pub loop-i-init : goal.loop-i-init
 loop-i-init c =
     let empty = c.requires.1 in
     let start = marks-none byte_values (hits c.args.desc.now c.args.layout) in
-    (omega arith, rw empty, refl, rw empty start)
+    (rw empty, rw empty start)
 
 pub loop-i-preserved : goal.loop-i-preserved
 loop-i-preserved c =
     let inv = c.loop-i.invariant in (
-      omega arith,
-      simp length-set inv.1,
-      inv.2,
+      simp length-set inv.0,
       marks-one byte_values c.loop-i.i c.table_at-table.result c.loop-i.marks (hits _ _) (omega arith) (omega arith)
-          (λ k l. rw c.table_at-table.ensures) inv.3,
+          (λ k l. rw c.table_at-table.ensures) inv.1,
     )
 
 pub returns : goal.returns
@@ -29,4 +27,4 @@ unfolding has_table
 returns c =
     let inv = c.loop-i.invariant in
     let s : c.loop-i.i ≡ c.args.layout.constructors.count = omega arith in
-    marks-all _ _ inv.1 (record { marked = λ k h. inv.3.marked k h ∙ rw (constructors-length, s) })
+    marks-all _ _ inv.0 (record { marked = λ k h. inv.1.marked k h ∙ rw (constructors-length, s) })

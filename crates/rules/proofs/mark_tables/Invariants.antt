@@ -9,7 +9,7 @@ use lib.Dec.{eqb}
 use mathlib.Core.Path.{◌≡◌}
 use mathlib.Core.List.{List}
 use mathlib.Core.Bool.{Bool}
-use Prim.Native.Nat.{ℕ, ◌≤◌, ◌-◌}
+use Prim.Native.Nat.{ℕ}
 use Rattle.rules.proofs.mark_tables.Given as goal
 
 -- constructor j has table t
@@ -18,7 +18,4 @@ hits desc layout t j = eqb (table_at (description desc layout) j) t
 
 abbrev pub invariant-loop-i : goal.invariant-loop-i
 invariant-loop-i l =
-    (l.i ≤ l.n) × (length l.marks ≡ byte_values) × (l.n ≡ l.layout.constructors.count) × Marks byte_values l.marks (λ t. any_below l.i (hits l.desc l.layout t))
-
-abbrev pub decreases-loop-i : goal.decreases-loop-i
-decreases-loop-i l = l.n - l.i
+    (length l.marks ≡ byte_values) × Marks byte_values l.marks (λ t. any_below l.i (hits l.desc l.layout t))

@@ -20,4 +20,4 @@ returns-then-places_fit c =
     rw (both _ _ _, sym c.places_fit.ensures ∙ c.if-places_fit.true) c.expressions_fit.ensures
 
 pub returns-else-places_fit : goal.returns-else-places_fit
-returns-else-places_fit c = rw (both _ _ _, sym c.places_fit.ensures ∙ c.if-places_fit.false)
+returns-else-places_fit c = rw (both _ _ _, sym c.places_fit.ensures ∙ c.if-places_fit.false) c.if-places_fit.false

@@ -4,8 +4,8 @@ use Rattle.setting.proofs.expression_place.Goals as goal
 
 pub expression_place-requires : goal.expression_place-requires
 unfolding setting_in
-expression_place-requires c = rw c.layout_of.ensures record { sections_in_bounds = c.requires.0.formed.room; i_lt_count = rw expressions-length at c.requires.1 }
+expression_place-requires c = record { sections_in_bounds = c.requires.0.formed.room; i_lt_count = rw expressions-length at c.requires.1 }
 
 pub returns : goal.returns
 unfolding setting_in
-returns c = rw c.layout_of.ensures at c.expression_place.ensures
+returns c = c.expression_place.ensures

@@ -8,14 +8,15 @@ use Rattle.format.specs.Layout.{SectionsInBounds}
 use Rattle.format.specs.Description.{text_of}
 use Rattle.format.specs.declared.Layout.{Layout}
 use Rattle.format.proofs.Lists.{text-length, letter-here}
-use Rattle.setting.specs.Fixed.{layout_in, setting_in, Fixed}
+use Rattle.setting.specs.Fixed.{setting_in, Fixed}
+use Rattle.setting.specs.declared.Prepared.{Prepared}
 use Rattle.setting.proofs.letters.Goals as goal
 
 -- `setting::letters` meets its contract. Assumes nothing.
 -- the text section lies in the description
-inside : (b a : List ℕ) (offset n : ℕ) → Fixed b a → offset + n ≤ length (setting_in b a).description.text → get_or a 10 0 + (offset + n) ≤ length b
+inside : (b : List ℕ) (a : Prepared) (offset n : ℕ) → Fixed b a → offset + n ≤ length (setting_in b a).description.text → a.layout.text.start + (offset + n) ≤ length b
 unfolding setting_in
-inside b a offset n f h = omega (arith, f.formed.room.text, rw (text-length b (layout_in a)) at h)
+inside b a offset n f h = omega (arith, f.formed.room.text, rw (text-length b a.layout) at h)
 
 -- its bytes are the description's
 letters-are : (b : List ℕ) (l : Layout) (offset n from end : ℕ) → SectionsInBounds b l → offset + n ≤ l.text.count → from ≡ l.text.start + offset
@@ -49,5 +50,5 @@ slice_bounds-result-end c = omega (arith, inside c.args.desc.now c.args.fixed.no
 pub returns : goal.returns
 unfolding setting_in
 returns c =
-    letters-are _ (layout_in c.args.fixed.now) c.args.offset c.args.n _ _ c.requires.0.formed.room
+    letters-are _ c.args.fixed.now.layout c.args.offset c.args.n _ _ c.requires.0.formed.room
     (rw text-length at c.requires.1) refl refl

@@ -4,8 +4,8 @@ use Rattle.setting.proofs.name.Goals as goal
 
 pub name_at-requires : goal.name_at-requires
 unfolding setting_in
-name_at-requires c = rw c.layout_of.ensures record { sections_in_bounds = c.requires.0.formed.room; i_lt_count = rw names-length at c.requires.1 }
+name_at-requires c = record { sections_in_bounds = c.requires.0.formed.room; i_lt_count = rw names-length at c.requires.1 }
 
 pub returns : goal.returns
 unfolding setting_in
-returns c = rw c.layout_of.ensures at c.name_at.ensures
+returns c = c.name_at.ensures

@@ -1,15 +1,19 @@
+use Rattle.std.specs.Prelude.{Err}
+use Rattle.std.proofs.lemmas.Result.{err_from_is_err_and}
 use Rattle.acceptance.proofs.Facts.{accepted-formed}
 use Rattle.table_query.specs.Asking.{ask_of}
-use mathlib.Core.Path.{sym, ◌∙◌}
+use mathlib.Core.Path.{sym, ap, ◌∙◌}
 use Rattle.table_query.proofs.ask.Goals as goal
 
 pub ask_in-requires : goal.ask_in-requires
-ask_in-requires c = accepted-formed _ _ (sym c.accept-acceptance.ensures ∙ c.in-Accepted.is)
+ask_in-requires c = accepted-formed _ _ (sym c.accept.ensures ∙ c.in_ok-layout.was)
 
-pub returns-in-Accepted : goal.returns-in-Accepted
+pub returns : goal.returns
 unfolding ask_of
-returns-in-Accepted c = rw (sym c.accept-acceptance.ensures ∙ c.in-Accepted.is) c.ask_in.ensures
+returns c = rw (sym c.accept.ensures ∙ c.in_ok-layout.was) c.ask_in.ensures
 
-pub returns-in-Rejected : goal.returns-in-Rejected
+pub returns-in_err-layout : goal.returns-in_err-layout
 unfolding ask_of
-returns-in-Rejected c = rw (sym c.accept-acceptance.ensures ∙ c.in-Rejected.is)
+returns-in_err-layout c =
+    let e = err_from_is_err_and _ c.from_residual.ensures.1 in
+    e.1 ∙ ap Err e.2 ∙ rw (sym c.accept.ensures ∙ c.in_err-layout.was)

@@ -11,16 +11,16 @@ pub loop-t-init : goal.loop-t-init
 loop-t-init c = fill_none _ _ _ (length-replicate {A = ℕ} (tables + 1) 0)
 
 pub overflow_add-i : goal.overflow_add-i
-overflow_add-i c = omega (arith, below-within _ _ _ _ _ c.loop-t.invariant (sym c.is_below.ensures ∙ c.if-is_below.true))
+overflow_add-i c = omega (arith, below-within _ _ _ _ _ c.loop-i.invariant (sym c.is_below.ensures ∙ c.loop-i-test.true))
 
-pub loop-t-smaller-then-is_below : goal.loop-t-smaller-then-is_below
-loop-t-smaller-then-is_below c = omega (arith, below-within _ _ _ _ _ c.loop-t.invariant (sym c.is_below.ensures ∙ c.if-is_below.true))
+pub loop-i-smaller : goal.loop-i-smaller
+loop-i-smaller c = omega (arith, below-within _ _ _ _ _ c.loop-i.invariant (sym c.is_below.ensures ∙ c.loop-i-test.true))
 
-pub loop-t-preserved-then-is_below : goal.loop-t-preserved-then-is_below
-loop-t-preserved-then-is_below c = fill-pass _ _ _ _ _ c.loop-t.invariant (sym c.is_below.ensures ∙ c.if-is_below.true)
+pub loop-i-preserved : goal.loop-i-preserved
+loop-i-preserved c = fill-pass _ _ _ _ _ c.loop-i.invariant (sym c.is_below.ensures ∙ c.loop-i-test.true)
 
 pub loop-t-preserved : goal.loop-t-preserved
-loop-t-preserved c = fill-set _ _ _ _ _ c.loop-t.invariant (sym c.is_below.ensures ∙ c.if-is_below.false) (sym (constructors-length _ _)) c.loop-t-test.true
+loop-t-preserved c = fill-set _ _ _ _ _ c.loop-i.invariant (sym c.is_below.ensures ∙ c.loop-i-test.false) (sym (constructors-length _ _)) c.loop-t-test.true
 
 pub returns : goal.returns
-returns c = fill-all _ _ _ _ _ c.loop-t.invariant c.loop-t-test.false
+returns c = fill-all _ _ _ _ _ c.loop-t.invariant (omega arith)

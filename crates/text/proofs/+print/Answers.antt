@@ -31,13 +31,13 @@ found t c = rw c.column-number.ensures at c.constructor-constructor.ensures
 pub print_constructor-loop-q-init : goal.print_constructor-loop-q-init
 print_constructor-loop-q-init t c = no-piece _ _ _ _ _ _ _ c.requires.printable.place
 
-pub print_constructor-print_piece-put-requires : goal.print_constructor-print_piece-put-requires
-print_constructor-print_piece-put-requires t c =
+pub print_constructor-print_piece-requires : goal.print_constructor-print_piece-requires
+print_constructor-print_piece-requires t c =
     let d = described c.args.desc.now c.args.fixed.now in
     let o = obeyed-in _ _ c.requires.printable.fixed in
     let k = number_at c.args.rows.now c.args.r in
     let low = c.requires.printable.sound.constructors c.args.r c.requires.printable.row c.requires.r_value in
-    let read = found t (goal.at.print_constructor-print_piece-put-requires t c).After-constructor-constructor in
+    let read = found t (goal.at.print_constructor-print_piece-requires t c).After-constructor-constructor in
     let test = rw read at c.loop-q-test.true in (
       omega (arith, c.decreases, c.requires.printable.sound.few, c.requires.printable.row),
       (
@@ -50,24 +50,21 @@ print_constructor-print_piece-put-requires t c =
       ),
     )
 
-pub print_constructor-returns-in-Full : goal.print_constructor-returns-in-Full
+pub print_constructor-returns-in_err-end : goal.print_constructor-returns-in_err-end
 unfolding constructor_text
-print_constructor-returns-in-Full t c =
+print_constructor-returns-in_err-end t c =
     λ depth g.
-    let adds = c.print_piece-put.ensures in
-    let after = c.print_piece-put.new.out in
-    rw (found t (goal.at.print_constructor-returns-in-Full t c).After-constructor-constructor) at
-    (full-piece _ _ _ _ _ _ _ _ _ _ c.loop-q.invariant c.loop-q-test.true _ _ adds c.in-Full.is depth g after)
-
-pub print_constructor-overflow_add-q : goal.print_constructor-overflow_add-q
-print_constructor-overflow_add-q t c =
-    omega (arith, c.loop-q-test.true, c.struct_known-2-1.given)
+    let adds = c.print_piece.ensures in
+    let after = c.print_piece.new.out in
+    rw c.from_residual.ensures
+    (rw (found t (goal.at.print_constructor-returns-in_err-end t c).After-constructor-constructor) at
+    (full-piece _ _ _ _ _ _ _ _ _ _ c.loop-q.invariant c.loop-q-test.true _ _ adds c.in_err-end.was depth g after))
 
 pub print_constructor-loop-q-preserved : goal.print_constructor-loop-q-preserved
 print_constructor-loop-q-preserved t c =
-    let adds = c.print_piece-put.ensures in
-    let same = c.print_piece-put.auto.out in
-    next-piece _ _ _ _ _ _ _ _ _ _ c.loop-q.invariant c.loop-q-test.true _ _ adds _ c.in-Wrote.is same
+    let adds = c.print_piece.ensures in
+    let same = c.print_piece.auto.out in
+    next-piece _ _ _ _ _ _ _ _ _ _ c.loop-q.invariant c.loop-q-test.true _ _ adds _ c.in_ok-end.was same
 
 pub print_constructor-returns : goal.print_constructor-returns
 unfolding constructor_text
@@ -91,9 +88,6 @@ print_part-print_value-requires t c =
       printable = c.requires;
       value_row = record { is = kind-here _ c.args.r _ c.column-kind.ensures; other = c.if-kind-eq0.false };
     }
-
-pub print_part-returns : goal.print_part-returns
-print_part-returns t c = c.print_value.ensures
 
 pub print_piece-put_letters-requires : goal.print_piece-put_letters-requires
 print_piece-put_letters-requires t c =
@@ -122,12 +116,6 @@ behind t c =
     let some : 1 ≤ p.n = c.requires.piece_row.showable.some other in
     let few = c.requires.piece_row.showable.few other in
     rw read (c.requires.printable.sound.operands c.args.r c.requires.printable.row c.requires.piece_row.kind (p.n - 1) (omega (arith, few)))
-
-pub print_piece-overflow_sub-n : goal.print_piece-overflow_sub-n
-print_piece-overflow_sub-n t c =
-    let read = c.piece-piece.ensures in
-    let some = c.requires.piece_row.showable.some (rw read at c.if-piece-eq0.false) in
-    rw read (omega arith)
 
 pub print_piece-row_behind-row-requires : goal.print_piece-row_behind-row-requires
 print_piece-row_behind-row-requires t c =

@@ -8,9 +8,6 @@ abbrev pub invariant-print_constructor-loop-q : goal.invariant-print_constructor
 invariant-print_constructor-loop-q l =
     PiecesWritten (described l.desc l.fixed) l.rows l.r l.first l.count l.at l.initial.out l.out l.end l.q
 
-abbrev pub decreases-print_constructor-loop-q : goal.decreases-print_constructor-loop-q
-decreases-print_constructor-loop-q l = l.count - l.q
-
 -- the rows that are left fall: a part calls its constructor, a constructor its pieces, a piece its part
 abbrev pub decreases-print_constructor : goal.decreases-print_constructor
 decreases-print_constructor l = 3 * (most_rows + 1 - l.r) - 1

@@ -1,5 +1,4 @@
-use mathlib.Core.Logic.{inr}
-use mathlib.Core.Path.{refl, sym, ◌∙◌}
+use mathlib.Core.Path.{sym, ◌∙◌}
 use native.Mathlib.Omega.{arith}
 use mir.Facts.{to_z-of_z}
 use Rattle.scratch_rows.specs.Places.{number_at, last_at}
@@ -17,9 +16,6 @@ unfolding number_at last_at
 returns-then-kind-eq1 c =
     part-number _ _ _ (omega (arith, c.requires.printable.sound.few)) _ _ _ _ (sym c.requires.value_row.is ∙ c.if-kind-eq1.true)
     (rw (to_z-of_z (record { sfits = c.put_field-arg-1.given }), c.column-index.ensures) at c.put_field.ensures)
-
-pub put_value-requires : goal.put_value-requires
-put_value-requires c = (inr refl, c.requires.printable.place)
 
 pub returns-then-kind-eq3 : goal.returns-then-kind-eq3
 unfolding last_at

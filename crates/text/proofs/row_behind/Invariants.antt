@@ -1,10 +1,8 @@
+use Prim.Native.Nat.{◌-◌}
 use mathlib.Core.Path.{◌≡◌}
 use Rattle.scratch_rows.specs.Places.{skip}
 use Rattle.text.proofs.row_behind.Given as goal
 
 -- `text::row_behind` meets its contract. Assumes nothing.
-abbrev pub invariant-loop-left : goal.invariant-loop-left
-invariant-loop-left l = skip l.rows l.row l.left ≡ skip l.rows l.first l.parts
-
-abbrev pub decreases-loop-left : goal.decreases-loop-left
-decreases-loop-left l = l.left
+abbrev pub invariant-loop : goal.invariant-loop
+invariant-loop l = skip l.rows l.row (l.parts - l.counter) ≡ skip l.rows l.first l.parts

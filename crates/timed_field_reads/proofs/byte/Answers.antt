@@ -4,15 +4,12 @@ use Rattle.timed_field_reads.proofs.ByBytes.{little_byte, big-byte}
 use Rattle.timed_field_reads.proofs.byte.Goals.{then-field-eq0, else-field-eq0}
 use Rattle.timed_field_reads.proofs.byte.Goals as goal
 
-pub bounds-code-k : goal.bounds-code-k
-bounds-code-k c = elim c.if-field-eq0.branch [ then-field-eq0 w ↦ omega arith | else-field-eq0 w ↦ omega arith ]
-
 pub returns : goal.returns
 returns c = (
-  c.wide.ensures.0
-      ∙ elim c.if-field-eq0.branch [
+  c.from-2.ensures
+      ∙ rw c.from.ensures (elim c.if-field-eq0.branch [
         | then-field-eq0 w ↦ rw w.k-is (little_byte c.args.field c.args.code.now c.args.j w.if-field-eq0.true)
         | else-field-eq0 w ↦ rw w.k-is (big-byte c.args.field c.args.code.now c.args.j w.if-field-eq0.false)
-      ],
-  c.wide.ensures.1,
+      ]),
+  omega (arith, c.from-2.ensures, c.type_inv.code c.from.result),
 )

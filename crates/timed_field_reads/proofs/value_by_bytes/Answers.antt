@@ -1,10 +1,6 @@
 use native.Mathlib.Omega.{arith}
-use borrow.Author.Rules.{rules}
 use Rattle.fields.proofs.Tokens.{token-value}
 use Rattle.timed_field_reads.proofs.value_by_bytes.Goals as goal
-
-pub token_by_bytes-requires : goal.token_by_bytes-requires
-token_by_bytes-requires c = (search rules, c.requires.width_in_bounds c.if-field-eq0.true)
 
 pub returns-then-field-eq0 : goal.returns-then-field-eq0
 returns-then-field-eq0 c =

@@ -4,47 +4,45 @@ use Rattle.tree_counting.proofs.Paths.{seen-valid}
 use Rattle.tree_counting.specs.Seen.{begin}
 use native.Mathlib.Omega.{arith}
 use mathlib.Core.Path.{sym, ◌∙◌}
+use Rattle.tree_counting.proofs.count.Goals.{in-Test, in-Leaf+in-Some}
 use Rattle.tree_counting.proofs.count.Goals as goal
 
-pub loop-n-init : goal.loop-n-init
-loop-n-init c = (omega arith, begin)
+pub loop-before-init : goal.loop-before-init
+loop-before-init c = begin
 
-pub node_at-node-requires : goal.node_at-node-requires
-node_at-node-requires c =
-    record { ready = c.requires; valid_pattern = seen-valid _ _ _ c.requires.sound c.loop-n.invariant.1 }
+pub node_at-requires-clause-valid_pattern : goal.node_at-requires-clause-valid_pattern
+node_at-requires-clause-valid_pattern c = seen-valid _ _ _ c.requires.sound c.loop-before.invariant
 
 pub side_of-p-requires : goal.side_of-p-requires
 side_of-p-requires c =
     let ready = c.requires in
-    let valid = seen-valid _ _ _ ready.sound c.loop-n.invariant.1 in
-    let fits = test_fits _ _ _ ready.sound ready.clear _ valid _ _ (sym c.node_at-node.ensures ∙ c.in-Test.is) in
+    let valid = seen-valid _ _ _ ready.sound c.loop-before.invariant in
+    let fits = test_fits _ _ _ ready.sound ready.clear _ valid _ _ (sym c.node_at.ensures ∙ c.in-Test.is) in
     (fits.0, fits.1, omega arith)
 
-pub loop-n-preserved-in-Test : goal.loop-n-preserved-in-Test
-loop-n-preserved-in-Test c =
-    let ready = c.requires in (
-      omega arith,
-      seen-zero _ _ _ ready.sound ready.clear _ _ c.loop-n.invariant.1 _ _ (sym c.node_at-node.ensures ∙ c.in-Test.is) _ c.side_of-p.ensures,
-    )
+pub turned-requires : goal.turned-requires
+turned-requires c = seen-valid _ _ _ c.requires.sound c.loop-before.invariant
 
-pub turned-behind-requires : goal.turned-behind-requires
-turned-behind-requires c =
-    seen-valid _ _ _ c.requires.sound c.loop-n.invariant.1
-
-pub returns-in-Whole : goal.returns-in-Whole
-returns-in-Whole c =
+pub returns-in-None : goal.returns-in-None
+returns-in-None c =
     let ready = c.requires in
-    seen-whole _ _ _ ready.sound ready.clear _ _ c.loop-n.invariant.1 _ _ (sym c.node_at-node.ensures ∙ c.in-Leaf.is)
-    _ (turns-of _ (seen-valid _ _ _ ready.sound c.loop-n.invariant.1) _ c.turned-behind.ensures) c.in-Whole.is c.loop-n-test.true
+    seen-whole _ _ _ ready.sound ready.clear _ _ c.loop-before.invariant _ _ (sym c.node_at.ensures ∙ c.in-Leaf.is)
+    _ (turns-of _ (seen-valid _ _ _ ready.sound c.loop-before.invariant) _ c.turned.ensures) c.in-None.is c.loop-before-test.true
 
-pub loop-n-preserved : goal.loop-n-preserved
-loop-n-preserved c =
-    let ready = c.requires in (
-      omega arith,
-      seen-side _ _ _ ready.sound ready.clear _ _ c.loop-n.invariant.1 _ (sym c.node_at-node.ensures ∙ c.in-Leaf.is) _ _ (turns-of _ (seen-valid _ _ _ ready.sound c.loop-n.invariant.1) _ c.turned-behind.ensures) c.in-Side.is,
-    )
+pub loop-before-preserved : goal.loop-before-preserved
+loop-before-preserved c =
+    let ready = c.requires in
+    elim c.match-node_at.branch [
+      | in-Test w ↦
+          rw w.p-is
+          (seen-zero _ _ _ ready.sound ready.clear _ _ c.loop-before.invariant _ _ (sym c.node_at.ensures ∙ w.in-Test.is) _ w.side_of-p.ensures)
+      | in-Leaf+in-Some w ↦
+          rw w.p-is
+          (seen-side _ _ _ ready.sound ready.clear _ _ c.loop-before.invariant _ (sym c.node_at.ensures ∙ w.in-Leaf.is) _ _
+          (turns-of _ (seen-valid _ _ _ ready.sound c.loop-before.invariant) _ w.turned.ensures) w.in-Some.is)
+    ]
 
 pub returns : goal.returns
 returns c =
     let ready = c.requires in
-    seen-too-many _ _ _ ready.sound ready.clear _ _ c.loop-n.invariant.1 _ c.loop-n-test.false
+    seen-too-many _ _ _ ready.sound ready.clear _ _ c.loop-before.invariant _ c.loop-before-test.false

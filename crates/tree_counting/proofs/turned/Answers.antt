@@ -1,22 +1,13 @@
 use Rattle.tree_counting.specs.Turning.{turn_of}
 use borrow.Author.Tests.{eq-eqb, ne_eqb}
-use Rattle.tree_counting.proofs.Turning.{context-small, top-positive, cut-context}
+use Rattle.tree_counting.proofs.Turning.{cut-context}
 use native.Mathlib.Omega.{arith}
 use Rattle.tree_counting.proofs.turned.Goals as goal
-
-pub overflow_cast-context : goal.overflow_cast-context
-overflow_cast-context c = omega (arith, context-small c.args.p c.requires)
-
-pub cut-requires : goal.cut-requires
-cut-requires c = rw c.highest-top.ensures (top-positive _)
 
 pub overflow_cast-result : goal.overflow_cast-result
 overflow_cast-result c =
     let e = rw c.highest-top.ensures at c.cut.ensures in
     omega (arith, e, cut-context c.args.p c.requires c.if-context-ne0.true c.args.p.contextmask c.requires.contextmask)
-
-pub cut-requires-then-context-ne0 : goal.cut-requires-then-context-ne0
-cut-requires-then-context-ne0 c = rw c.highest-top.ensures (top-positive _)
 
 pub overflow_cast-result-then-context-ne0 : goal.overflow_cast-result-then-context-ne0
 overflow_cast-result-then-context-ne0 c =
@@ -27,12 +18,6 @@ pub returns-then-context-ne0 : goal.returns-then-context-ne0
 unfolding turn_of
 returns-then-context-ne0 c =
     rw (c.cut.ensures, c.cut-then-context-ne0.ensures, c.highest-top.ensures, ne_eqb _ 0 c.if-context-ne0.true)
-
-pub cut-requires-then-bytes-ne0 : goal.cut-requires-then-bytes-ne0
-cut-requires-then-bytes-ne0 c = rw c.highest-top-then-bytes-ne0.ensures (top-positive _)
-
-pub cut-requires-then-bytes-ne0-2 : goal.cut-requires-then-bytes-ne0-2
-cut-requires-then-bytes-ne0-2 c = rw c.highest-top-then-bytes-ne0.ensures (top-positive _)
 
 pub returns-then-bytes-ne0 : goal.returns-then-bytes-ne0
 unfolding turn_of

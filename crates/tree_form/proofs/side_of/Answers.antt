@@ -5,12 +5,6 @@ pub returns-then-kind-eq1 : goal.returns-then-kind-eq1
 returns-then-kind-eq1 c =
     side-byte _ _ _ _ c.if-kind-eq1.true c.requires.0 c.requires.2
 
-pub overflow_shl-result-2 : goal.overflow_shl-result-2
-overflow_shl-result-2 c = c.requires.1 c.if-kind-eq1.false
-
-pub overflow_shl-result-3 : goal.overflow_shl-result-3
-overflow_shl-result-3 c = c.requires.1 c.if-kind-eq1.false
-
 pub returns : goal.returns
 returns c =
     side-context _ _ _ _ c.if-kind-eq1.false (c.requires.1 c.if-kind-eq1.false) c.requires.2

@@ -1,18 +1,15 @@
 use Rattle.tree_nodes.proofs.Noding.{byte-node, context-node, leaf-node}
-use mathlib.Core.Path.{ap, ◌∙◌}
-use Rattle.tree_building_spec.specs.declared.Node.TheVariants.{Test}
 use Rattle.tree_nodes.proofs.node_at.Goals as goal
 
 pub returns-then-bytes-ne0 : goal.returns-then-bytes-ne0
 returns-then-bytes-ne0 c =
     let ready = c.requires in
-    ap (Test 1) c.lowest.ensures ∙ byte-node _ _ _ _ ready.ready.sound ready.valid_pattern _ c.gather-live.ensures c.if-bytes-ne0.true
+    byte-node _ _ _ _ ready.ready.sound ready.valid_pattern _ c.gather-live.ensures c.if-bytes-ne0.true
 
 pub returns-then-context-ne0 : goal.returns-then-context-ne0
 returns-then-context-ne0 c =
     let ready = c.requires in
-    ap (Test 2) c.lowest_context.ensures
-    ∙ context-node _ _ _ _ ready.ready.sound ready.valid_pattern _ c.gather-live.ensures c.if-bytes-ne0.false c.if-context-ne0.true
+    context-node _ _ _ _ ready.ready.sound ready.valid_pattern _ c.gather-live.ensures c.if-bytes-ne0.false c.if-context-ne0.true
 
 pub returns : goal.returns
 returns c =

@@ -2,20 +2,16 @@ use Rattle.format.proofs.Lists.{pieces-length}
 use Rattle.lists.proofs.Below.{all_none, all_keep}
 use native.Mathlib.Omega.{arith}
 use mathlib.Core.Path.{◌≡◌, sym, ◌∙◌}
-use Rattle.validation.proofs.all_pieces.Invariants.{ok}
 use Rattle.validation.proofs.all_pieces.Goals as goal
 
 pub loop-i-init : goal.loop-i-init
-loop-i-init c = (omega arith, sym (all_none (ok _ _)))
+loop-i-init c = sym (all_none _)
 
 pub loop-i-preserved : goal.loop-i-preserved
-loop-i-preserved c = (
-  omega arith,
-  all_keep (ok _ _) c.loop-i.i c.loop-i.good c.piece_ok-good.result c.loop-i.invariant.1
-      (λ _. c.piece_ok-good.ensures ∙ rw c.piece_at-p.ensures),
-)
+loop-i-preserved c =
+    all_keep _ c.loop-i.i c.loop-i.good c.piece_ok-good.result c.loop-i.invariant (λ _. c.piece_ok-good.ensures ∙ rw c.piece_at-p.ensures)
 
 pub returns : goal.returns
 returns c =
     let s : c.loop-i.i ≡ c.args.layout.pieces.count = omega arith in
-    rw pieces-length (rw s at c.loop-i.invariant.1)
+    rw pieces-length (rw s at c.loop-i.invariant)

@@ -16,4 +16,4 @@ returns c =
     rw c.one_more.ensures
     (λ g e.
     computed-put g _ _ _ _ c.if-state-ge-ROWS.false c.if-place-gt-LONGEST.false _ (rw e c.if-fixed-place.false)
-    (rw c.wide.ensures.0 at c.put_row.ensures))
+    (rw c.from.ensures at c.put_row.ensures))

@@ -18,12 +18,12 @@ use Rattle.walk_steps.proofs.field_from.Goals as goal
 -- the record at the index, and where it ends
 found : (c : After-field-field)
     → c.field-field.result ≡ get_or (setting_in c.args.desc.now c.args.fixed.now).description.fields c.args.index no_field
-found c = rw c.wide.ensures.0 at c.field-field.ensures
+found c = rw c.from.ensures at c.field-field.ensures
 
 end_is : (c : After-width_of)
     → c.args.place + c.width_of.result
     ≡ c.args.place + width_of (get_or (setting_in c.args.desc.now c.args.fixed.now).description.fields c.args.index no_field)
-end_is c = ap (λ (w : ℕ). c.args.place + w) (c.width_of.ensures.0 ∙ ap width_of (rw c.wide.ensures.0 at c.field-field.ensures))
+end_is c = ap (λ (w : ℕ). c.args.place + w) (c.width_of.ensures.0 ∙ ap width_of (rw c.from.ensures at c.field-field.ensures))
 
 good : (c : After-field-field)
     → field_ok (length (setting_in c.args.desc.now c.args.fixed.now).description.names) c.field-field.result ≡ true

@@ -10,7 +10,7 @@ number-shown-requires c =
 
 pub returns-then-rows-eq-SCRATCH : goal.returns-then-rows-eq-SCRATCH
 returns-then-rows-eq-SCRATCH c =
-    rw (to_z-of_z (record { sfits = c.number-shown.type_inv }), c.number-shown.ensures, c.value-value.ensures, c.wide.ensures.0) at c.put_row.ensures
+    rw (to_z-of_z (record { sfits = c.number-shown.type_inv }), c.number-shown.ensures, c.value-value.ensures, c.from.ensures) at c.put_row.ensures
 
 pub returns-else-rows-eq-SCRATCH : goal.returns-else-rows-eq-SCRATCH
 returns-else-rows-eq-SCRATCH c = unwritten _ _ _ c.if-rows-eq-SCRATCH.false

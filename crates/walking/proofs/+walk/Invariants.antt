@@ -8,9 +8,6 @@ abbrev pub invariant-walk_operands-loop-o : goal.invariant-walk_operands-loop-o
 invariant-walk_operands-loop-o l =
     LoopState (setting_in l.desc l.fixed) l.first l.code l.at l.count l.initial.passed l.initial.rows l.rows l.ends l.far l.passed l.o
 
-abbrev pub decreases-walk_operands-loop-o : goal.decreases-walk_operands-loop-o
-decreases-walk_operands-loop-o l = l.count - l.o
-
 -- the rows that are left fall: a table calls its constructor, a constructor its operands, those each operand, and an operand its table
 abbrev pub decreases-walk_constructor : goal.decreases-walk_constructor
 decreases-walk_constructor l = 4 * (most_rows + 1 - l.state.used) - 1

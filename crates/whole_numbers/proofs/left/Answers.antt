@@ -6,7 +6,7 @@ use mir.Syntax.{w64}
 use mir.Val.{to_z, of_z}
 use Rattle.whole_numbers.specs.Range.{inside}
 use Rattle.whole_numbers.specs.Operators.{left_z}
-use Rattle.whole_numbers.specs.declared.Whole.TheVariants.{Value}
+use Rattle.std.specs.Prelude.{Some}
 use Rattle.whole_numbers.proofs.Kept.{kept-is, refuses}
 use Rattle.whole_numbers.proofs.Words.{alike, left-test, left_word}
 use Rattle.whole_numbers.proofs.left.Goals.{Start}
@@ -20,7 +20,7 @@ tested c = rw (to_z-of_z c.ranges.a) (left-test c.args.a c.args.k c.requires c.r
 pub returns-then-top : goal.returns-then-top
 returns-then-top c =
     let e = sym (tested (goal.at.returns-then-top c).Start) ∙ c.if-top.true in
-    ap Value (left_word c.args.a c.args.k c.ranges.a.sfits e) ∙ kept-is _ e
+    ap Some (left_word c.args.a c.args.k c.ranges.a.sfits e) ∙ kept-is _ e
 
 pub returns : goal.returns
 returns c = refuses _ (sym (tested (goal.at.returns c).Start) ∙ c.if-top.false)

@@ -1,0 +1,2 @@
+-- What is proved of a section's records.
+pub mod Search

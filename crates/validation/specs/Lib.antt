@@ -1,0 +1,2 @@
+-- A section's judgement by itself.
+pub mod Judgement
