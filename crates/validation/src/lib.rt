@@ -2,24 +2,32 @@
 #![tactic(auto)]
 
 ghost use Rattle.std.specs.Prelude.{◌≡◌, ◌<◌, ℕ, Bool};
-ghost use Rattle.lists.specs.Below.{first_below};
-ghost use Rattle.format.specs.Layout.{SectionsInBounds};
-ghost use Rattle.format.specs.Description.{description, pieces_of, no_piece};
+ghost use Rattle.format.specs.Layout.{SectionsInBounds, inside};
+ghost use Rattle.format.specs.Description.{description, records_of, pieces_of, no_piece};
 ghost use Rattle.format.specs.Rules.{piece_ok, letter_ok};
 ghost use Rattle.format.specs.Check.{all_good, bad_field, bad_name, bad_constructor, bad_operand, bad_piece, bad_letter, bad_expression, fault_of, check_of};
-ghost use Rattle.validation.specs.Judgement.{judgement};
+ghost use Rattle.validation.specs.Judgement.{judgement, record_in, first_broken};
 
-use format::{Fault, Layout};
+use format::{Cursor, Fault, Layout, Place, Record, Section};
 
-// The fault of the first of a section's records that is not good.
-fn judge<F: Fn(usize) -> bool>(section: usize, count: usize, good: F) -> Result<(), Fault>
-    requires { (i : ℕ) → i < count → F.pre good i }
-    ensures { (ok : ℕ → Bool) → ((i : ℕ) (r : Bool) → i < count → F.post good i r → r ≡ ok i) → result ≡ judgement section (first_below count ok) count }
+// The fault of the first of a section's records that is not good. The cursor goes from record to record.
+fn judge<T: Record, F: Fn(usize, T) -> bool>(
+    section: usize,
+    desc: &[u8],
+    records: Section,
+    good: F,
+) -> Result<(), Fault>
+    requires in_bounds { inside desc.now T.BYTES records }
+    requires callable { (i : ℕ) → i < records.count → F.pre good i (record_in T.reading T.BYTES desc.now records i) }
+    ensures { (rule : ℕ → T → Bool) (none : T) → ((i : ℕ) (r : Bool) → i < records.count → F.post good i (record_in T.reading T.BYTES desc.now records i) r → r ≡ rule i (record_in T.reading T.BYTES desc.now records i)) → result ≡ judgement section (first_broken rule none (records_of T.reading T.BYTES desc.now records)) records.count }
 {
-    for i in 0..count {
-        if !good(i) {
+    let mut c = Cursor { at: records.start };
+    for i in 0..records.count {
+        let r = c.read::<T>(desc);
+        if !good(i, r.value) {
             return Err(Fault { section, number: i });
         }
+        c = r.next;
     }
     Ok(())
 }
@@ -28,8 +36,8 @@ fn judge_fields(desc: &[u8], layout: Layout) -> Result<(), Fault>
     requires { SectionsInBounds desc.now layout }
     ensures { result ≡ judgement 1 (bad_field (description desc.now layout)) layout.fields.count }
 {
-    judge(1, layout.fields.count, |i| {
-        rules::field_ok(sections::field_at(desc, layout, i), layout.names.count)
+    judge(1, desc, layout.fields, |_, field| {
+        rules::field_ok(field, layout.names.count)
     })
 }
 
@@ -37,25 +45,20 @@ fn judge_names(desc: &[u8], layout: Layout) -> Result<(), Fault>
     requires { SectionsInBounds desc.now layout }
     ensures { result ≡ judgement 2 (bad_name (description desc.now layout)) layout.names.count }
 {
-    judge(2, layout.names.count, |i| {
-        rules::name_ok(sections::name_at(desc, layout, i), layout.text.count)
+    judge(2, desc, layout.names, |_, name| {
+        rules::name_ok(name, layout.text.count)
     })
 }
 
+#[tactic(auto, using(sections::proofs::Records::record_is), unfolding(format::specs::Description::constructors_of))]
 fn judge_constructors(desc: &[u8], layout: Layout) -> Result<(), Fault>
     requires { SectionsInBounds desc.now layout }
     ensures { result ≡ judgement 3 (bad_constructor (description desc.now layout)) layout.constructors.count }
 {
     let mut tables = [false; format::BYTE_VALUES];
     rules::mark_tables(desc, layout, &mut tables);
-    judge(3, layout.constructors.count, |i| {
-        rules::constructor_ok(
-            desc,
-            layout,
-            &tables,
-            i,
-            sections::constructor_at(desc, layout, i),
-        )
+    judge(3, desc, layout.constructors, |i, constructor| {
+        rules::constructor_ok(desc, layout, &tables, i, constructor)
     })
 }
 
@@ -63,8 +66,8 @@ fn judge_operands(desc: &[u8], layout: Layout) -> Result<(), Fault>
     requires { SectionsInBounds desc.now layout }
     ensures { result ≡ judgement 4 (bad_operand (description desc.now layout)) layout.operands.count }
 {
-    judge(4, layout.operands.count, |i| {
-        rules::operand_ok(desc, layout, sections::operand_at(desc, layout, i))
+    judge(4, desc, layout.operands, |_, operand| {
+        rules::operand_ok(desc, layout, operand)
     })
 }
 
@@ -88,8 +91,8 @@ fn judge_pieces(desc: &[u8], layout: Layout) -> Result<(), Fault>
     if all_pieces(desc, layout) {
         return Ok(());
     }
-    judge(5, layout.pieces.count, |i| {
-        rules::piece_ok(sections::piece_at(desc, layout, i), layout.text.count)
+    judge(5, desc, layout.pieces, |_, piece| {
+        rules::piece_ok(piece, layout.text.count)
     })
 }
 
@@ -112,17 +115,15 @@ fn judge_text(desc: &[u8], layout: Layout) -> Result<(), Fault>
     if all_letters(text) {
         return Ok(());
     }
-    judge(6, layout.text.count, |i| {
-        rules::letter_ok(sections::letter_at(desc, layout, i))
-    })
+    judge(6, desc, layout.text, |_, letter| rules::letter_ok(letter))
 }
 
 fn judge_expressions(desc: &[u8], layout: Layout) -> Result<(), Fault>
     requires { SectionsInBounds desc.now layout }
     ensures { result ≡ judgement 7 (bad_expression (description desc.now layout)) layout.expressions.count }
 {
-    judge(7, layout.expressions.count, |i| {
-        expressions::writes(desc, sections::expression_place(desc, layout, i))
+    judge(7, desc, layout.expressions, |_, expression: Place| {
+        expressions::writes(desc, expression.at)
     })
 }
 

@@ -4,6 +4,8 @@ use native.Mathlib.Omega.{arith}
 use Rattle.std.proofs.Common.{rules}
 use Rattle.lists.proofs.Below.{first_done}
 use Rattle.format.proofs.Lists.{text-length}
+use Rattle.format.specs.Description.{text_of}
+use Rattle.format.specs.Rules.{letter_ok}
 use Rattle.format.specs.Check.{bad_letter}
 use Rattle.validation.proofs.Text.{text_slice}
 use Rattle.validation.proofs.judge_text.Goals as goal
@@ -16,5 +18,5 @@ returns-then-all_letters c =
     rw (first_done _ _ (rw whole at (sym c.all_letters.ensures ∙ c.if-all_letters.true)), text-length, le-ltb n n (omega arith))
 
 pub returns : goal.returns
-unfolding bad_letter
-returns c = rw text-length (c.judge.ensures _ (λ i r h p. search rules))
+unfolding bad_letter text_of
+returns c = c.judge.ensures (λ _. letter_ok) 0 (λ i r h p. search rules)
