@@ -1,13 +1,14 @@
 -- What is known of a part behind a writer, and of the whole that it is a part of.
-use Prim.Native.Nat.{ℕ, ◌-◌, ◌≤◌, ◌<◌}
+use Prim.Native.Nat.{ℕ, suc, ◌+◌, ◌-◌, ◌≤◌, ◌<◌}
 use mathlib.Core.Bool.{Bool, true, false, cond}
-use mathlib.Core.List.{List, [], ◌++◌, append_assoc, append-nil}
+use mathlib.Core.List.{List, [], ◌∷◌, ◌++◌, append_assoc, append-nil}
 use mathlib.Core.Path.{◌≡◌, refl, sym, ◌∙◌, ap}
+use native.Mathlib.Numerals.{add-one}
 use native.Mathlib.Omega.{arith}
 use borrow.Author.Tests.{leb-true, leb-false, le-leb}
 use lib.Dec.{leb}
-use lib.ListN.{length, take, drop, length-append, length-drop, take-append-drop, drop_of_length-le}
-use lib.Seq.{length-take-le, take_all, take_at, drop_at, drop-drop}
+use lib.ListN.{length, take, drop, set, get_or, length-append, length-drop, take-append-drop, drop_of_length-le}
+use lib.Seq.{take-suc, drop-cons, set_at, length-take-le, take_all, take_at, drop_at, drop-drop}
 use Rattle.std.specs.Prelude.{Option, Some, None}
 use Rattle.printing.specs.Writing.{over, Puts}
 
@@ -62,3 +63,13 @@ puts-full {w} {before} {after} {r} p e = go (leb (length w) (length before)) ref
 pub puts-done : (w before : List ℕ) {after : List ℕ} → length w ≤ length before → after ≡ over w before
     → Puts w before after (Some (length w))
 puts-done w before h e = record { answer = rw (le-leb _ _ h); holds = rw (le-leb _ _ h) e }
+
+-- one byte more copied
+pub copy_more : (w l : List ℕ) (i : ℕ) → i < length w → length w ≤ length l
+    → set (over (take i w) l) i (get_or w i 0) ≡ over (take (i + 1) w) l
+unfolding over
+copy_more w l i h f =
+    let a : length (take i w) ≡ i = length-take-le i w (omega arith) in
+    let b : length (take (suc i) w) ≡ suc i = length-take-le (suc i) w (omega arith) in
+    let d : drop i l ≡ get_or l i 0 ∷ drop (suc i) l = drop-cons l i 0 (omega arith) in
+    rw (add-one, a, b, d, set_at (take i w) (get_or l i 0) (drop (suc i) l) (get_or w i 0) i a, take-suc w i 0 h, append_assoc)

@@ -22,7 +22,10 @@ pub fn put_bytes(src: &[u8], out: &mut [u8]) -> Option<usize>
     if out.len() < size {
         return None;
     }
-    out[..size].copy_from_slice(src);
+    // Byte by byte: the library's copy makes a caller in C bring a `memmove`.
+    for i in 0..size {
+        out[i] = src[i];
+    }
     Some(size)
 }
 
