@@ -12,6 +12,7 @@ pub fn plus(a: i64, b: i64) -> Option<i64>
     a.checked_add(b)
 }
 
+#[tactic(auto, using(crate::proofs::Kept::checked))]
 pub fn minus(a: i64, b: i64) -> Option<i64>
     ensures { result ≡ kept (a -ℤ b) }
 {

@@ -13,7 +13,7 @@ use Rattle.walking.proofs.Readiness.{stayed, moved}
 use Rattle.walking.proofs.Answers.{within}
 use Rattle.walking.proofs.Turns.{first-turn, next-turn, refused-turn, last_turn, operand-field, operand-computed, operand-table, constructor-closes, was-taken, table-full, table-far, table-refused, table_taken}
 use Prim.Native.Nat.{ℕ, ◌<◌, ◌+◌}
-use Rattle.walking.proofs.+walk.Goals.{walk_operands-After-from}
+use Rattle.walking.proofs.+walk.Goals.{walk_operands-After-from, walk_operands-In_ok-walk}
 use Rattle.walking.proofs.+walk.Goals as goal
 
 -- The cycle of the walk: a table calls its constructor, a constructor its operands, those each operand, and an operand its table.
@@ -121,22 +121,26 @@ starts-at t c = rw (c.from.ensures, c.from-anchor.ensures, c.from-offset.ensures
 
 pub walk_operands-returns-in_err-walk : goal.walk_operands-returns-in_err-walk
 walk_operands-returns-in_err-walk t c =
-    let p = err_from_is_err_and c.from_residual.result c.from_residual.ensures.1 in
-    rw (p.1, p.2, ← c.from-count.ensures)
+    let e = err_from_is_err_and c.from_residual.result c.from_residual.ensures.1 in
+    rw (e.1, e.2, ← c.from-count.ensures)
     (refused-turn _ _ _ _ _ _ _ _ _ _ _ _ _ c.loop-o.invariant _ _ _ c.loop-o-test.true c.operand-operand.ensures (starts-at t (goal.at.walk_operands-returns-in_err-walk t c).After-from)
     c.walk_operand.ensures _ c.in_err-walk.was)
 
+-- the bounds of the operand's walk, where it was done
+came : (t : ℕ)
+    (c : walk_operands-In_ok-walk t)
+    → Within (c.args.at + (c.from.result + c.from-offset.result)) c.loop-o.passed.used (Ok c.in_ok-walk.walk)
+came t c = rw c.in_ok-walk.was at (within _ _ _ _ _ _ _ _ c.walk_operand.ensures)
+
 pub walk_operands-overflow_add-end : goal.walk_operands-overflow_add-end
 walk_operands-overflow_add-end t c =
-    let w = within _ _ _ _ _ _ _ _ c.walk_operand.ensures in
-    let bounds : Within (c.args.at + (c.from.result + c.from-offset.result)) c.loop-o.passed.used (Ok c.in_ok-walk.walk) = rw c.in_ok-walk.was at w in
-    omega (arith, bounds.2)
+    let w = came t (goal.at.walk_operands-overflow_add-end t c).In_ok-walk in
+    omega (arith, w.2)
 
 pub walk_operands-overflow_cast-ends : goal.walk_operands-overflow_cast-ends
 walk_operands-overflow_cast-ends t c =
-    let w = within _ _ _ _ _ _ _ _ c.walk_operand.ensures in
-    let bounds : Within (c.args.at + (c.from.result + c.from-offset.result)) c.loop-o.passed.used (Ok c.in_ok-walk.walk) = rw c.in_ok-walk.was at w in
-    omega (arith, bounds.2)
+    let w = came t (goal.at.walk_operands-overflow_cast-ends t c).In_ok-walk in
+    omega (arith, w.2)
 
 pub walk_operands-loop-o-preserved : goal.walk_operands-loop-o-preserved
 walk_operands-loop-o-preserved t c =

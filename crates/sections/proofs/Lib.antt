@@ -1,0 +1,2 @@
+-- Laws of the records in a section.
+pub mod Records
